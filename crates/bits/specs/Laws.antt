@@ -1,0 +1,129 @@
+-- The laws that join masks and shifts to parts of a byte, each once over the place and the width.
+use Prim.Native.Nat.{ℕ, _+_, _-_, _*_, _/_, _%_, _^_, _<_, _≤_}
+use native.Mathlib.Nat.{mod-eq-of-lt, mod-lt, mul-mod-left, zero-mod, div-eq-of-lt, lt-of-lt-of-le, lt-of-le-of-lt, mod-le, mod-one, div-one, add-zero, add-comm, mul-comm, one-mul}
+use native.Mathlib.Omega.{arith}
+use mathlib.Core.Path.{_≡_, refl, sym, ap, _∙_}
+use mathlib.Core.Bool.{Bool, true, false}
+use lib.Dec.{leb}
+use lib.Bits.{bitAnd, bitOr, and-mask, or-shifted-r}
+use lib.Pow.{pow-pos, pow-mono, pow-lt, pow-add, shr-lt, shl-shr, mod-pow-add, shr-le}
+use lib.Arith.{digits-lt}
+use borrow.Author.Tests.{leb-true, leb-false}
+use Rattle.bits.specs.Bits.{oneIf, partAt, joinedAt, replacedAt, cutTo}
+
+-- ---- a condition as a number
+pub one-if-in : {n : ℕ} (condition : Bool) → n ≡ oneIf condition → n ≤ 1
+unfolding oneIf
+one-if-in true e = omega arith
+one-if-in false e = omega arith
+
+-- ---- what stands above a place of a byte
+module _ (byte place : ℕ) (fits : byte < 256) where
+  nothing-past : 8 ≤ place → byte / 2 ^ place ≡ 0
+  nothing-past far = div-eq-of-lt (lt-of-lt-of-le fits (pow-mono far))
+
+  above-fits : byte / 2 ^ place < 2 ^ (8 - place)
+  above-fits = go (leb place 8) refl
+    where
+      go : (within : Bool) → leb place 8 ≡ within → byte / 2 ^ place < 2 ^ (8 - place)
+      go true h =
+          let near : place ≤ 8 = leb-true place 8 h in
+          let whole : 8 - place + place ≡ 8 = omega arith in
+          shr-lt (8 - place) place (rw whole fits)
+      go false h =
+          let far : 8 < place = leb-false place 8 h in
+          rw (nothing-past (omega arith)) (pow-pos (8 - place))
+
+-- ---- a part
+pub one-shifted : (width : ℕ) → width < 8 → 1 * 2 ^ width % 256 ≡ 2 ^ width
+one-shifted width near = rw (one-mul (2 ^ width)) (mod-eq-of-lt (pow-lt near))
+
+pub masked-part : (byte place width : ℕ) → bitAnd (byte / 2 ^ place) (2 ^ width - 1) ≡ partAt byte place width
+unfolding partAt
+masked-part byte place width = and-mask (byte / 2 ^ place) width
+
+pub wide-part : (byte place width : ℕ) → byte < 256 → 8 ≤ width → byte / 2 ^ place ≡ partAt byte place width
+unfolding partAt
+wide-part byte place width fits wide =
+    sym (mod-eq-of-lt (lt-of-le-of-lt (shr-le byte place) (lt-of-lt-of-le fits (pow-mono wide))))
+
+pub no-part-past : (byte place width : ℕ) → byte < 256 → 8 ≤ place → 0 ≡ partAt byte place width
+unfolding partAt
+no-part-past byte place width fits far = rw (nothing-past byte place fits far) (sym (zero-mod (2 ^ width)))
+
+-- ---- a byte put together
+shifted-up : (high place : ℕ) → place < 8 → high * 2 ^ place % 256 ≡ high % 2 ^ (8 - place) * 2 ^ place
+shifted-up high place near =
+    let whole : 8 - place + place ≡ 8 = omega arith in
+    rw whole at (mod-pow-add (high * 2 ^ place) (8 - place) place)
+    ∙ rw (shl-shr high place, mul-mod-left high (2 ^ place)) (add-zero (high % 2 ^ (8 - place) * 2 ^ place))
+
+pub or-joined : (low place high : ℕ) → place < 8 → bitOr (bitAnd low (2 ^ place - 1)) (high * 2 ^ place % 256) ≡ joinedAt low place high
+unfolding joinedAt
+or-joined low place high near =
+    rw (and-mask low place, shifted-up high place near)
+    (or-shifted-r (high % 2 ^ (8 - place)) place (low % 2 ^ place) (mod-lt low (pow-pos place)) ∙ add-comm (high % 2 ^ (8 - place) * 2 ^ place) (low % 2 ^ place))
+
+pub joined-past : (low place high : ℕ) → low < 256 → 8 ≤ place → low ≡ joinedAt low place high
+unfolding joinedAt
+joined-past low place high fits far =
+    let none : 8 - place ≡ 0 = omega arith in
+    let kept : low % 2 ^ place ≡ low = mod-eq-of-lt (lt-of-lt-of-le fits (pow-mono far)) in
+    rw (none, kept, mod-one high) (omega arith)
+
+joined-near : (low place high : ℕ) → place < 8 → joinedAt low place high < 256
+unfolding joinedAt
+joined-near low place high near =
+    let eight : 8 - place + place ≡ 8 = omega arith in
+    let whole : 2 ^ (8 - place) * 2 ^ place ≡ 2 ^ 8 = sym (pow-add 2 (8 - place) place) ∙ ap (λ (k : ℕ). 2 ^ k) eight in
+    rw (add-comm (low % 2 ^ place) (high % 2 ^ (8 - place) * 2 ^ place))
+    (rw whole at (digits-lt (mod-lt high (pow-pos (8 - place))) (mod-lt low (pow-pos place))))
+
+pub joined-fits : (low place high : ℕ) → low < 256 → joinedAt low place high < 256
+joined-fits low place high fits = go (leb 8 place) refl
+  where
+    go : (past : Bool) → leb 8 place ≡ past → joinedAt low place high < 256
+    go true h = rw (← joined-past low place high fits (leb-true 8 place h)) fits
+    go false h = joined-near low place high (leb-false 8 place h)
+
+-- parts that fit their places add up
+pub joined-sum : (low place high : ℕ) → low < 2 ^ place → high < 2 ^ (8 - place) → joinedAt low place high ≡ low + high * 2 ^ place
+unfolding joinedAt
+joined-sum low place high l h = rw (mod-eq-of-lt l, mod-eq-of-lt h)
+
+-- ---- a part replaced: the bits below it, the part and the bits above it, put together
+module _ (old new place width : ℕ) (old-fits : old < 256) (new-fits : new < 256) where
+  part-below : partAt new place width < 2 ^ width
+  unfolding partAt
+  part-below = mod-lt (new / 2 ^ place) (pow-pos width)
+
+  part-inside : partAt new place width < 2 ^ (8 - place)
+  unfolding partAt
+  part-inside = lt-of-le-of-lt (mod-le (new / 2 ^ place) (2 ^ width)) (above-fits new place new-fits)
+
+  taken-sum : joinedAt old place (partAt new place width) ≡ old % 2 ^ place + partAt new place width * 2 ^ place
+  unfolding joinedAt
+  taken-sum = rw (mod-eq-of-lt part-inside)
+
+  taken-below : old % 2 ^ place + partAt new place width * 2 ^ place < 2 ^ (place + width)
+  taken-below =
+      rw (pow-add 2 place width, add-comm (old % 2 ^ place) (partAt new place width * 2 ^ place), mul-comm (2 ^ place) (2 ^ width))
+      (digits-lt part-below (mod-lt old (pow-pos place)))
+
+  pub replaced-joined : joinedAt (joinedAt old place (partAt new place width)) (place + width) (partAt old (place + width) 8) ≡ replacedAt old new place width
+  unfolding replacedAt
+  replaced-joined =
+      let high : partAt old (place + width) 8 ≡ old / 2 ^ (place + width) = sym (wide-part old (place + width) 8 old-fits (omega arith)) in
+      rw (taken-sum, high)
+      (joined-sum (old % 2 ^ place + partAt new place width * 2 ^ place) (place + width) (old / 2 ^ (place + width)) taken-below (above-fits old (place + width) old-fits))
+
+  pub replaced-to-the-end : 8 ≤ place + width → joinedAt old place (partAt new place width) ≡ replacedAt old new place width
+  replaced-to-the-end far = joined-past (joinedAt old place (partAt new place width)) (place + width) (partAt old (place + width) 8) (joined-fits old place (partAt new place width) old-fits) far ∙ replaced-joined
+
+-- ---- the word length
+pub cut-by : (character lcr n : ℕ) → lcr % 4 ≡ n → character % 2 ^ (5 + n) ≡ cutTo character lcr
+unfolding cutTo partAt
+cut-by character lcr n h = rw (div-one lcr, h)
+
+pub cut-whole : (character lcr : ℕ) → character < 256 → lcr % 4 ≡ 3 → character ≡ cutTo character lcr
+cut-whole character lcr fits h = sym (mod-eq-of-lt fits) ∙ cut-by character lcr 3 h

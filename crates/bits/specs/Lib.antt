@@ -1,0 +1,4 @@
+-- What the contracts of `bits` cite, and the laws that join masks and shifts to it.
+pub mod Choice
+pub mod Bits
+pub mod Laws

@@ -1,0 +1,3 @@
+-- What the proofs of single functions cite.
+pub mod OneWay
+pub mod Search

@@ -1,0 +1,68 @@
+-- "Queued characters and their marks sit together in one record, 64 places": the record, place by place.
+use Prim.Native.Nat.{ℕ, zero, suc, _+_, _-_, _%_, _<_, _≤_}
+use mathlib.Core.Path.{_≡_}
+use mathlib.Core.Bool.{Bool, true, false, not, _||_}
+use mathlib.Core.List.{List}
+use lib.ListN.{length, getD, set, replicate}
+use lib.Dec.{eqb, ltb}
+use Rattle.bits.specs.Choice.{pick}
+use Rattle.queue.specs.declared.Character.{Character}
+use Rattle.queue.specs.declared.Queue.{Queue}
+use Rattle.queue.specs.declared.Added.{Added}
+
+-- what may be asked of a queue: its numbers are within their bounds, and nothing more
+pub record WellFormed (q : Queue) : Type 0 where
+  pub start-in : q .start < 64
+  pub count-in : q .count ≤ 64
+  pub bytes-64 : length (q .bytes) ≡ 64
+  pub marks-64 : length (q .marks) ≡ 64
+
+-- every mark is below a bound
+unfoldable pub MarksBelow : ℕ → Queue → Type 0
+MarksBelow bound q = (place : ℕ) → getD (q .marks) place 0 < bound
+
+-- the character that stands for none
+abbrev pub none : Character
+none = record { byte = 0; mark = 0 }
+
+unfoldable pub emptyQueue : Queue
+emptyQueue = record { bytes = replicate 64 0; marks = replicate 64 0; start = 0; count = 0 }
+
+-- one more character, in the place after the last
+unfoldable pub behind : Queue → Character → Queue
+behind q c =
+    record {
+      bytes = set (q .bytes) ((q .start + q .count) % 64) (c .byte);
+      marks = set (q .marks) ((q .start + q .count) % 64) (c .mark);
+      start = q .start;
+      count = q .count + 1;
+    }
+
+-- "kept with its mark if fewer than room are queued, else lost"; "the newcomer is the one lost (house)"
+unfoldable pub addedTo : Queue → Character → ℕ → Added
+addedTo q c room = record { queue = pick (ltb (q .count) room) (behind q c) q; kept = ltb (q .count) room }
+
+-- the places from the second on
+unfoldable pub rest : Queue → Queue
+rest q = record { bytes = q .bytes; marks = q .marks; start = (q .start + 1) % 64; count = q .count - 1 }
+
+unfoldable pub takenFrom : Queue → Queue
+takenFrom q = pick (eqb (q .count) 0) q (rest q)
+
+unfoldable pub clearedFrom : Queue → Queue
+clearedFrom q = record { bytes = q .bytes; marks = q .marks; start = q .start; count = 0 }
+
+-- "oldest character ..; 0 if empty"
+unfoldable pub oldestOf : Queue → Character
+oldestOf q =
+    pick (eqb (q .count) 0) none
+    (record { byte = getD (q .bytes) (q .start) 0; mark = getD (q .marks) (q .start) 0 })
+
+-- whether one of the n places from s on, counted round, has a mark
+unfoldable pub markedFrom : List ℕ → ℕ → ℕ → Bool
+markedFrom marks s zero = false
+markedFrom marks s (suc n) = not (eqb (getD marks (s % 64) 0) 0) || markedFrom marks (suc s) n
+
+-- "some queued mark not 0"
+unfoldable pub anyMarkOf : Queue → Bool
+anyMarkOf q = markedFrom (q .marks) (q .start) (q .count)

@@ -1,0 +1,125 @@
+// Queued characters with their marks, in one record of 64 places that are used round and round.
+// Nothing outside this crate looks at a place: others know a queue by the list that it stands for.
+ghost use mathlib.Core.Path.{_≡_};
+ghost use Prim.Native.Nat.{_≤_};
+ghost use Rattle.bits.specs.Choice.{pick};
+ghost use Rattle.queue.specs.Queue.{WellFormed, emptyQueue, addedTo, takenFrom, clearedFrom, oldestOf, anyMarkOf};
+
+pub struct Character {
+    pub byte: u8,
+    pub mark: u8,
+}
+
+pub struct Queue {
+    bytes: [u8; 64],
+    marks: [u8; 64],
+    start: u8,
+    pub count: u8,
+}
+
+// A queue after an arrival, and whether the character was kept.
+pub struct Added {
+    pub queue: Queue,
+    pub kept: bool,
+}
+
+fn chosen(condition: bool, x: u8, y: u8) -> u8
+    ensures { λ r. ⌜ r ≡ pick condition x y ⌝ }
+{
+    if condition { x } else { y }
+}
+
+impl Queue {
+    pub fn empty() -> Queue
+        ensures { λ r. ⌜ r ≡ emptyQueue ⌝ }
+    {
+        Queue {
+            bytes: [0u8; 64],
+            marks: [0u8; 64],
+            start: 0,
+            count: 0,
+        }
+    }
+
+    // With one more character behind the others, if fewer than `room` are queued; else as it was.
+    // A character that is not kept leaves its place as it was: one way through the code, one copy of the places.
+    pub fn add(self, character: Character, room: u8) -> Added
+        requires { ⌜ WellFormed self × (room ≤ 64) ⌝ }
+        ensures { λ r. ⌜ r ≡ addedTo self character room ⌝ }
+    {
+        let start = self.start;
+        let count = self.count;
+        let kept = count < room;
+        let at = ((start + count) % 64) as usize;
+        let mut bytes = self.bytes;
+        let mut marks = self.marks;
+        bytes[at] = chosen(kept, character.byte, bytes[at]);
+        marks[at] = chosen(kept, character.mark, marks[at]);
+        let queue = Queue {
+            bytes: bytes,
+            marks: marks,
+            start: start,
+            count: count + bits::one_if(kept),
+        };
+        Added {
+            queue: queue,
+            kept: kept,
+        }
+    }
+
+    // Without its oldest character; an empty queue as it was.
+    pub fn take(self) -> Queue
+        requires { ⌜ WellFormed self ⌝ }
+        ensures { λ r. ⌜ r ≡ takenFrom self ⌝ }
+    {
+        let count = self.count;
+        let gone = bits::one_if(count != 0);
+        let mut next = self;
+        next.start = (self.start + gone) % 64;
+        next.count = count - gone;
+        next
+    }
+
+    pub fn clear(self) -> Queue
+        requires { ⌜ WellFormed self ⌝ }
+        ensures { λ r. ⌜ r ≡ clearedFrom self ⌝ }
+    {
+        let mut next = self;
+        next.count = 0;
+        next
+    }
+
+    // The oldest character and its mark, 0 and 0 of an empty queue.
+    pub fn oldest(self) -> Character
+        requires { ⌜ WellFormed self ⌝ }
+        ensures { λ r. ⌜ r ≡ oldestOf self ⌝ }
+    {
+        let some = self.count != 0;
+        let at = self.start as usize;
+        let bytes = self.bytes;
+        let marks = self.marks;
+        Character {
+            byte: chosen(some, bytes[at], 0),
+            mark: chosen(some, marks[at], 0),
+        }
+    }
+
+    // Whether some queued mark is not 0.
+    pub fn any_mark(self) -> bool
+        requires { ⌜ WellFormed self ⌝ }
+        ensures { λ r. ⌜ r ≡ anyMarkOf self ⌝ }
+    {
+        let start = self.start;
+        let count = self.count;
+        let marks = self.marks;
+        let mut i: u8 = 0;
+        while i < count {
+            let at = ((start + i) % 64) as usize;
+            if marks[at] != 0 {
+                return true;
+            }
+            i += 1;
+        }
+        false
+    }
+}
