@@ -38,6 +38,10 @@ module _ (byte place : ℕ) (fits : byte < 256) where
 pub one-shifted : (width : ℕ) → width < 8 → 1 * 2 ^ width % 256 ≡ 2 ^ width
 one-shifted width near = rw (one-mul (2 ^ width)) (mod-eq-of-lt (pow-lt near))
 
+pub part-in : (byte place width : ℕ) → partAt byte place width < 2 ^ width
+unfolding partAt
+part-in byte place width = mod-lt (byte / 2 ^ place) (pow-pos width)
+
 pub masked-part : (byte place width : ℕ) → bitAnd (byte / 2 ^ place) (2 ^ width - 1) ≡ partAt byte place width
 unfolding partAt
 masked-part byte place width = and-mask (byte / 2 ^ place) width
@@ -93,10 +97,6 @@ joined-sum low place high l h = rw (mod-eq-of-lt l, mod-eq-of-lt h)
 
 -- ---- a part replaced: the bits below it, the part and the bits above it, put together
 module _ (old new place width : ℕ) (old-fits : old < 256) (new-fits : new < 256) where
-  part-below : partAt new place width < 2 ^ width
-  unfolding partAt
-  part-below = mod-lt (new / 2 ^ place) (pow-pos width)
-
   part-inside : partAt new place width < 2 ^ (8 - place)
   unfolding partAt
   part-inside = lt-of-le-of-lt (mod-le (new / 2 ^ place) (2 ^ width)) (above-fits new place new-fits)
@@ -108,7 +108,7 @@ module _ (old new place width : ℕ) (old-fits : old < 256) (new-fits : new < 25
   taken-below : old % 2 ^ place + partAt new place width * 2 ^ place < 2 ^ (place + width)
   taken-below =
       rw (pow-add 2 place width, add-comm (old % 2 ^ place) (partAt new place width * 2 ^ place), mul-comm (2 ^ place) (2 ^ width))
-      (digits-lt part-below (mod-lt old (pow-pos place)))
+      (digits-lt (part-in new place width) (mod-lt old (pow-pos place)))
 
   pub replaced-joined : joinedAt (joinedAt old place (partAt new place width)) (place + width) (partAt old (place + width) 8) ≡ replacedAt old new place width
   unfolding replacedAt

@@ -2,7 +2,15 @@
 // A place or a width past the byte is no fault: there is nothing there.
 ghost use mathlib.Core.Path.{_≡_};
 ghost use Prim.Native.Nat.{_-_, _^_, _<_};
+ghost use Rattle.bits.specs.Choice.{pick};
 ghost use Rattle.bits.specs.Bits.{oneIf, bitAt, partAt, joinedAt, replacedAt, cutTo};
+
+// The first of two bytes where a condition holds, else the second.
+pub fn chosen(condition: bool, x: u8, y: u8) -> u8
+    ensures { λ r. ⌜ r ≡ pick condition x y ⌝ }
+{
+    if condition { x } else { y }
+}
 
 // 1 for a condition that holds, else 0.
 pub fn one_if(condition: bool) -> u8

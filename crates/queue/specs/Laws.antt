@@ -12,9 +12,10 @@ use borrow.Author.Tests.{ne-eqb, ltb-true, eqb-true, eqb-false}
 use Rattle.bits.specs.Choice.{pick, pick-by}
 use Rattle.queue.specs.declared.Character.{Character}
 use Rattle.queue.specs.declared.Queue.{Queue}
-use Rattle.queue.specs.declared.Added.{Added}
-use Rattle.queue.specs.Queue.{WellFormed, MarksBelow, none, emptyQueue, behind, addedTo, rest, takenFrom, clearedFrom, oldestOf, markedFrom, anyMarkOf}
-use Rattle.queue.specs.List.{charAt, itemsFrom, items, someMark}
+use Rattle.queue.specs.declared.Act.{Act}
+use Rattle.queue.specs.declared.Act.the-variants as act
+use Rattle.queue.specs.Queue.{WellFormed, MarksBelow, none, emptyQueue, behind, addedTo, rest, takenFrom, clearedFrom, oldestOf, markedFrom, anyMarkOf, actedOn}
+use Rattle.queue.specs.List.{charAt, itemsFrom, items, someMark, listAfter}
 
 -- ---- the length is the count
 length-from : (bytes marks : List ℕ) (s n : ℕ) → length (itemsFrom bytes marks s n) ≡ n
@@ -194,45 +195,50 @@ module _ (bound : ℕ) where
   unfolding MarksBelow clearedFrom
   marks-below-cleared q h = h
 
+  -- the mark of a character that an act adds
+  abbrev pub MarkBelow : Act → Type 0
+  MarkBelow (act.Add c) = c .mark < bound
+  MarkBelow act.Take = Unit {0}
+  MarkBelow act.Clear = Unit {0}
+  MarkBelow act.Nothing = Unit {0}
+
+  pub marks-below-acted : (q : Queue) (a : Act) (room : ℕ) → MarksBelow bound q → MarkBelow a → MarksBelow bound (actedOn q a room .queue)
+  unfolding actedOn
+  marks-below-acted q (act.Add c) room h m = marks-below-added q c room h m
+  marks-below-acted q act.Take room h m = marks-below-taken q h
+  marks-below-acted q act.Clear room h m = marks-below-cleared q h
+  marks-below-acted q act.Nothing room h m = h
+
   pub oldest-mark-below : (q : Queue) → 0 < bound → MarksBelow bound q → oldestOf q .mark < bound
   unfolding MarksBelow oldestOf
   oldest-mark-below q some h = pick-by (λ (c : Character). c .mark < bound) (eqb (q .count) 0) (λ _. some) (λ _. h (q .start))
 
+-- ---- an act does to a queue what it does to the list
+pub items-acted : (q : Queue) (a : Act) (room : ℕ) → WellFormed q → room ≤ 64 → items (actedOn q a room .queue) ≡ listAfter (items q) a room
+unfolding actedOn listAfter
+items-acted q (act.Add c) room ok r = items-added q c room ok r
+items-acted q act.Take room ok r = items-taken q ok
+items-acted q act.Clear room ok r = items-cleared q
+items-acted q act.Nothing room ok r = refl
+
+pub well-formed-acted : (q : Queue) (a : Act) (room : ℕ) → WellFormed q → room ≤ 64 → WellFormed (actedOn q a room .queue)
+unfolding actedOn
+well-formed-acted q (act.Add c) room ok r = well-formed-added q c room ok r
+well-formed-acted q act.Take room ok r = well-formed-taken q ok
+well-formed-acted q act.Clear room ok r = well-formed-cleared q ok
+well-formed-acted q act.Nothing room ok r = ok
+
 -- ---- places are used again: however many characters come and go, the list is what the same acts make of a list
-pub data Act : Type 0 where
-  add : Character → Act
-  take clear : Act
+abbrev pub allActedOn : ℕ → List Act → Queue → Queue
+allActedOn room [] q = q
+allActedOn room (a ∷ acts) q = allActedOn room acts (actedOn q a room .queue)
 
-abbrev pub acted : ℕ → Act → Queue → Queue
-acted room (add c) q = addedTo q c room .queue
-acted room take q = takenFrom q
-acted room clear q = clearedFrom q
-
-abbrev pub actedOnList : ℕ → Act → List Character → List Character
-actedOnList room (add c) cs = pick (ltb (length cs) room) (cs ++ (c ∷ [])) cs
-actedOnList room take cs = drop 1 cs
-actedOnList room clear cs = []
-
-abbrev pub allActed : ℕ → List Act → Queue → Queue
-allActed room [] q = q
-allActed room (a ∷ acts) q = allActed room acts (acted room a q)
-
-abbrev pub allActedOnList : ℕ → List Act → List Character → List Character
-allActedOnList room [] cs = cs
-allActedOnList room (a ∷ acts) cs = allActedOnList room acts (actedOnList room a cs)
-
-acted-list : (room : ℕ) (a : Act) (q : Queue) → room ≤ 64 → WellFormed q → items (acted room a q) ≡ actedOnList room a (items q)
-acted-list room (add c) q r ok = items-added q c room ok r
-acted-list room take q r ok = items-taken q ok
-acted-list room clear q r ok = items-cleared q
-
-acted-well-formed : (room : ℕ) (a : Act) (q : Queue) → room ≤ 64 → WellFormed q → WellFormed (acted room a q)
-acted-well-formed room (add c) q r ok = well-formed-added q c room ok r
-acted-well-formed room take q r ok = well-formed-taken q ok
-acted-well-formed room clear q r ok = well-formed-cleared q ok
+abbrev pub listAfterAll : ℕ → List Act → List Character → List Character
+listAfterAll room [] cs = cs
+listAfterAll room (a ∷ acts) cs = listAfterAll room acts (listAfter cs a room)
 
 pub places-used-again : (room : ℕ) (acts : List Act) (q : Queue) → room ≤ 64 → WellFormed q
-    → items (allActed room acts q) ≡ allActedOnList room acts (items q)
+    → items (allActedOn room acts q) ≡ listAfterAll room acts (items q)
 places-used-again room [] q r ok = refl
 places-used-again room (a ∷ acts) q r ok =
-    rw (← acted-list room a q r ok) (places-used-again room acts (acted room a q) r (acted-well-formed room a q r ok))
+    rw (← items-acted q a room ok r) (places-used-again room acts (actedOn q a room .queue) r (well-formed-acted q a room ok r))

@@ -1,11 +1,14 @@
 -- The list of characters that a queue stands for, oldest first. Whoever uses a queue knows it by this list alone.
 use Prim.Native.Nat.{ℕ, zero, suc, _%_}
 use mathlib.Core.Bool.{Bool, false, not, _||_}
-use mathlib.Core.List.{List, [], _∷_}
-use lib.ListN.{getD}
-use lib.Dec.{eqb}
+use mathlib.Core.List.{List, [], _∷_, _++_}
+use lib.ListN.{length, getD, drop}
+use lib.Dec.{eqb, ltb}
+use Rattle.bits.specs.Choice.{pick}
 use Rattle.queue.specs.declared.Character.{Character}
 use Rattle.queue.specs.declared.Queue.{Queue}
+use Rattle.queue.specs.declared.Act.{Act}
+use Rattle.queue.specs.declared.Act.the-variants as act
 
 -- the character at the place s, counted round
 abbrev pub charAt : List ℕ → List ℕ → ℕ → Character
@@ -24,3 +27,10 @@ items q = itemsFrom (q .bytes) (q .marks) (q .start) (q .count)
 unfoldable pub someMark : List Character → Bool
 someMark [] = false
 someMark (c ∷ cs) = not (eqb (c .mark) 0) || someMark cs
+
+-- a list of characters after an act: "kept .. if fewer than room are queued, else lost"
+unfoldable pub listAfter : List Character → Act → ℕ → List Character
+listAfter cs (act.Add c) room = pick (ltb (length cs) room) (cs ++ (c ∷ [])) cs
+listAfter cs act.Take room = drop 1 cs
+listAfter cs act.Clear room = []
+listAfter cs act.Nothing room = cs

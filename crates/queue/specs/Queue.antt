@@ -9,6 +9,8 @@ use Rattle.bits.specs.Choice.{pick}
 use Rattle.queue.specs.declared.Character.{Character}
 use Rattle.queue.specs.declared.Queue.{Queue}
 use Rattle.queue.specs.declared.Added.{Added}
+use Rattle.queue.specs.declared.Act.{Act}
+use Rattle.queue.specs.declared.Act.the-variants as act
 
 -- what may be asked of a queue: its numbers are within their bounds, and nothing more
 pub record WellFormed (q : Queue) : Type 0 where
@@ -66,3 +68,10 @@ markedFrom marks s (suc n) = not (eqb (getD marks (s % 64) 0) 0) || markedFrom m
 -- "some queued mark not 0"
 unfoldable pub anyMarkOf : Queue → Bool
 anyMarkOf q = markedFrom (q .marks) (q .start) (q .count)
+
+-- a queue after an act, and whether a character that it adds was kept; an act that adds none loses none
+unfoldable pub actedOn : Queue → Act → ℕ → Added
+actedOn q (act.Add c) room = addedTo q c room
+actedOn q act.Take room = record { queue = takenFrom q; kept = true }
+actedOn q act.Clear room = record { queue = clearedFrom q; kept = true }
+actedOn q act.Nothing room = record { queue = q; kept = true }

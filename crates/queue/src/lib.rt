@@ -1,9 +1,10 @@
 // Queued characters with their marks, in one record of 64 places that are used round and round.
 // Nothing outside this crate looks at a place: others know a queue by the list that it stands for.
+use bits::chosen;
+use bits::one_if;
 ghost use mathlib.Core.Path.{_≡_};
 ghost use Prim.Native.Nat.{_≤_};
-ghost use Rattle.bits.specs.Choice.{pick};
-ghost use Rattle.queue.specs.Queue.{WellFormed, emptyQueue, addedTo, takenFrom, clearedFrom, oldestOf, anyMarkOf};
+ghost use Rattle.queue.specs.Queue.{WellFormed, emptyQueue, addedTo, takenFrom, clearedFrom, oldestOf, anyMarkOf, actedOn};
 
 pub struct Character {
     pub byte: u8,
@@ -17,16 +18,18 @@ pub struct Queue {
     pub count: u8,
 }
 
-// A queue after an arrival, and whether the character was kept.
+// A queue after an act, and whether a character that the act added was kept; one that adds none loses none.
 pub struct Added {
     pub queue: Queue,
     pub kept: bool,
 }
 
-fn chosen(condition: bool, x: u8, y: u8) -> u8
-    ensures { λ r. ⌜ r ≡ pick condition x y ⌝ }
-{
-    if condition { x } else { y }
+// What an event does to a queue.
+pub enum Act {
+    Add(Character),
+    Take,
+    Clear,
+    Nothing,
 }
 
 impl Queue {
@@ -59,7 +62,7 @@ impl Queue {
             bytes: bytes,
             marks: marks,
             start: start,
-            count: count + bits::one_if(kept),
+            count: count + one_if(kept),
         };
         Added {
             queue: queue,
@@ -73,7 +76,7 @@ impl Queue {
         ensures { λ r. ⌜ r ≡ takenFrom self ⌝ }
     {
         let count = self.count;
-        let gone = bits::one_if(count != 0);
+        let gone = one_if(count != 0);
         let mut next = self;
         next.start = (self.start + gone) % 64;
         next.count = count - gone;
@@ -121,5 +124,27 @@ impl Queue {
             i += 1;
         }
         false
+    }
+
+    // After an act, over a room for one more character.
+    pub fn act(self, act: Act, room: u8) -> Added
+        requires { ⌜ WellFormed self × (room ≤ 64) ⌝ }
+        ensures { λ r. ⌜ r ≡ actedOn self act room ⌝ }
+    {
+        match act {
+            Act::Add(character) => self.add(character, room),
+            Act::Take => Added {
+                queue: self.take(),
+                kept: true,
+            },
+            Act::Clear => Added {
+                queue: self.clear(),
+                kept: true,
+            },
+            Act::Nothing => Added {
+                queue: self,
+                kept: true,
+            },
+        }
     }
 }

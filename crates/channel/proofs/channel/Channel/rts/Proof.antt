@@ -1,0 +1,17 @@
+use borrow.Author.Needs.{needs}
+use Rattle.channel.specs.Channel.{rtsAsserted}
+use Rattle.channel.proofs.channel.Channel.rts.Statement.{statement}
+use Rattle.channel.proofs.channel.Channel.rts.Tie as tie
+
+busy-requires : tie.Need-busy-requires
+busy-requires c κs = search needs
+
+rts-requires : tie.Need-rts-requires
+rts-requires c κs = search needs
+
+returns : tie.Need-returns
+unfolding rtsAsserted
+returns c = simp (c .rts .ensures, c .before .busy .ensures)
+
+pub rts-spec : {M : Type 1} → statement M
+rts-spec = tie.close (tie.spec busy-requires rts-requires returns)

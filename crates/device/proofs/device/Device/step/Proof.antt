@@ -1,0 +1,15 @@
+use borrow.Author.Needs.{needs}
+use Rattle.device.proofs.device.Device.step.Statement.{statement}
+use Rattle.device.proofs.device.Device.step.Tie as tie
+
+judged-requires : tie.Need-judged-requires
+judged-requires c κs = search needs
+
+answered-requires : tie.Need-answered-requires
+answered-requires c κs = search needs
+
+returns : tie.Need-returns
+returns c = simp (c .answered .ensures, c .before .judged .ensures)
+
+pub step-spec : {M : Type 1} → statement M
+step-spec = tie.close (tie.spec judged-requires answered-requires returns)

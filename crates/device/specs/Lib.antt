@@ -1,0 +1,4 @@
+-- What the contracts of `device` cite, and the theorems on it.
+pub mod Effects
+pub mod Device
+pub mod Laws

@@ -1,0 +1,9 @@
+// The chip: two channels, and the step that takes an event to a reply and the next record.
+mod device;
+mod effect;
+mod side;
+
+pub use device::Answer;
+pub use device::Device;
+pub use device::Outcome;
+pub use side::Side;

@@ -1,0 +1,16 @@
+use borrow.Author.Tests.{lt-ltb, le-ltb}
+use borrow.Author.Needs.{needs}
+use Rattle.event.proofs.events.read.Statement.{statement}
+use Rattle.event.proofs.events.read.Tie as tie
+
+returns : tie.Need-returns
+returns c = simp (lt-ltb _ _ (c .if1 .taken))
+
+cast-t5 : tie.Need-cast-t5
+cast-t5 c = search needs
+
+returns-2 : tie.Need-returns-2
+returns-2 c = simp (le-ltb _ _ (c .if1 .left))
+
+pub read-spec : {M : Type 1} → statement M
+read-spec = tie.close (tie.spec returns cast-t5 returns-2)

@@ -1,0 +1,71 @@
+-- What is written reads back, what reads as an event stands there in the one written form, and reading moves forward.
+use Prim.Native.Nat.{ℕ, _+_, _<_, _≤_}
+use native.Mathlib.Omega.{arith}
+use mathlib.Core.Path.{_≡_, refl, ap}
+use mathlib.Core.List.{List, _++_}
+use lib.ListN.{length, take, drop, length-append, length-drop}
+use lib.Seq.{take-append-seam}
+use Rattle.event.specs.declared.refusal.Refusal.{Refusal}
+use Rattle.event.specs.declared.events.Event.{Event}
+use Rattle.event.specs.declared.events.Made.the-variants as made
+use Rattle.event.specs.declared.reading.Reading.the-variants as reading
+use Rattle.event.specs.Refusals.{refusalNumber}
+use Rattle.event.specs.Events.{eventOf, Numbers, numbersOf, judgedOf, InRange}
+use Rattle.event.specs.Reading.{readAt}
+use Rattle.event.specs.Writing.{bytesOf, padded, wholeOf, writtenOf}
+use Rattle.event.specs.Laws.{Bytes, made-of, made-in-range, in-range-judged, in-range-small, numberBytes, numbers-back, ReadingFrom, reading-from}
+
+-- the bytes that the writer gives for numbers, up to its count, are the bytes of the event that they make
+pub written-bytes : (kind x y z : ℕ) {e : Event} → eventOf kind x y z ≡ made.Event e
+    → (take (writtenOf (eventOf kind x y z) .count) (writtenOf (eventOf kind x y z) .bytes) ≡ bytesOf e)
+    × (writtenOf (eventOf kind x y z) .count ≡ length (bytesOf e))
+unfolding writtenOf wholeOf padded
+written-bytes kind x y z {e} made = rw made (take-append-seam (bytesOf e) _, refl)
+
+module _ (s : List ℕ) (at : ℕ) where
+  -- the bytes of an event read back as that event, whatever stands before them and after
+  pub bytes-read-back : (e : Event) (rest : List ℕ) → length s ≤ 65536 → InRange e → drop at s ≡ bytesOf e ++ rest
+      → readAt s at ≡ reading.Event e (at + length (bytesOf e))
+  unfolding judgedOf
+  bytes-read-back e rest short range stands =
+      let n : Numbers = numbersOf e in
+      let judged : eventOf (n .kind) (n .x) (n .y) (n .z) ≡ made.Event e = in-range-judged e range in
+      let bytes : bytesOf e ≡ numberBytes (n .kind) (n .x) (n .y) (n .z) = (rw judged at (made-of (n .kind) (n .x) (n .y) (n .z))) .1 in
+      rw bytes (rw judged at (numbers-back s at n rest short (in-range-small e range) (rw bytes at stands)))
+
+  -- and so do the bytes that the writer gives for its numbers
+  pub written-reads-back : (kind x y z : ℕ) {e : Event} (rest : List ℕ) → length s ≤ 65536 → eventOf kind x y z ≡ made.Event e
+      → drop at s ≡ take (writtenOf (eventOf kind x y z) .count) (writtenOf (eventOf kind x y z) .bytes) ++ rest
+      → readAt s at ≡ reading.Event e (at + writtenOf (eventOf kind x y z) .count)
+  written-reads-back kind x y z {e} rest short made stands =
+      rw (written-bytes kind x y z made .1)
+      (bytes-read-back e rest short (made-in-range kind x y z made) (rw (written-bytes kind x y z made .0) at stands))
+
+  -- whatever reads as an event is, byte for byte, what the writer writes for it
+  pub one-written-form : {e : Event} {next : ℕ} → Bytes s → readAt s at ≡ reading.Event e next
+      → (drop at s ≡ bytesOf e ++ drop next s) × (next ≡ at + length (bytesOf e))
+  one-written-form {e} {next} bytes read =
+      let from : ReadingFrom s at (reading.Event e next) = rw read at (reading-from s at) in
+      let stands : drop at s ≡ bytesOf e ++ drop next s = from .3 bytes in
+      (stands, omega (arith, simp (length-drop, length-append) at (ap length stands)))
+
+  -- an event and a refused one end past their place and inside the input
+  pub reading-moves-forward : (next : ℕ)
+      → ((e : Event) → readAt s at ≡ reading.Event e next → (at < next) × (next ≤ length s))
+      × ((r : Refusal) → readAt s at ≡ reading.Refused r next → (at < next) × (next ≤ length s))
+  reading-moves-forward next = (
+    λ e read. let from : ReadingFrom s at (reading.Event e next) = rw read at (reading-from s at) in (from .0, from .1),
+    λ r read. let from : ReadingFrom s at (reading.Refused r next) = rw read at (reading-from s at) in (from .0, from .1),
+  )
+
+  pub read-in-range : {e : Event} {next : ℕ} → readAt s at ≡ reading.Event e next → InRange e
+  read-in-range {e} {next} read = (rw read at (reading-from s at)) .2
+
+  -- the refusals after which the next event is read are 4 to 8, and those that end the run 1, 2, 3 and 9
+  pub refusals-by-outcome : (r : Refusal)
+      → ((next : ℕ) → readAt s at ≡ reading.Refused r next → (4 ≤ refusalNumber r) × (refusalNumber r ≤ 8))
+      × (readAt s at ≡ reading.Ended r → 3 < refusalNumber r → refusalNumber r ≡ 9)
+  refusals-by-outcome r = (
+    λ next read. let from : ReadingFrom s at (reading.Refused r next) = rw read at (reading-from s at) in (from .2, from .3),
+    λ read. rw read at (reading-from s at),
+  )

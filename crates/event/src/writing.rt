@@ -1,0 +1,78 @@
+// An event's bytes, as an event file has them.
+use crate::events::Event;
+use crate::events::Made;
+use crate::events::event_of;
+ghost use mathlib.Core.Path.{_≡_};
+ghost use Prim.Native.Nat.{_+_, _<_};
+ghost use Rattle.event.specs.Events.{InRange, eventOf};
+ghost use Rattle.event.specs.Writing.{wholeOf, writtenOf};
+
+// The least number that takes two groups.
+const TWO_GROUPS: u8 = 128;
+
+// The bytes with their count, places past the count 0, and 0 for the refusal; of a refused event no byte, and its number.
+pub struct Written {
+    pub bytes: [u8; 5],
+    pub count: u8,
+    pub refusal: u8,
+}
+
+fn whole(bytes: [u8; 5], count: u8) -> Written
+    ensures { λ r. ⌜ r ≡ record { bytes = bytes; count = count; refusal = 0 } ⌝ }
+{
+    Written {
+        bytes: bytes,
+        count: count,
+        refusal: 0,
+    }
+}
+
+// Of all operands only a byte can take two groups.
+fn event_bytes(event: Event) -> Written
+    requires { ⌜ InRange event ⌝ }
+    ensures { λ r. ⌜ r ≡ wholeOf event ⌝ }
+{
+    match event {
+        Event::Write {
+            channel,
+            address,
+            byte,
+        } => {
+            if byte < TWO_GROUPS {
+                return whole([0, channel, address, byte, 0], 4);
+            }
+            whole([0, channel, address, byte, 1], 5)
+        }
+        Event::Read { channel, address } => whole([1, channel, address, 0, 0], 3),
+        Event::Arrival {
+            channel,
+            byte,
+            mark,
+        } => {
+            if byte < TWO_GROUPS {
+                return whole([2, channel, byte, mark, 0], 4);
+            }
+            whole([2, channel, byte, 1, mark], 5)
+        }
+        Event::Slot { channel } => whole([3, channel, 0, 0, 0], 2),
+        Event::Pins { channel, value } => whole([4, channel, value, 0, 0], 3),
+        Event::Quiet { channel } => whole([5, channel, 0, 0, 0], 2),
+        Event::Reset => whole([6, 0, 0, 0, 0], 1),
+        Event::IrqLook => whole([7, 0, 0, 0, 0], 1),
+        Event::RtsLook { channel } => whole([8, channel, 0, 0, 0], 2),
+    }
+}
+
+// The event of plain numbers, written.
+pub fn write(kind: u64, x: u64, y: u64, z: u64) -> Written
+    ensures { λ r. ⌜ r ≡ writtenOf (eventOf kind x y z) ⌝ }
+{
+    match event_of(kind, x, y, z) {
+        Made::Event(event) => event_bytes(event),
+        Made::Refused(refusal) => Written {
+            bytes: [0; 5],
+            count: 0,
+            refusal: refusal.number(),
+        },
+    }
+}

@@ -1,0 +1,17 @@
+use borrow.Author.Needs.{needs}
+use Rattle.registers.specs.Windows.{tcrOpen}
+use Rattle.registers.proofs.settings.Settings.tcr_open.Statement.{statement}
+use Rattle.registers.proofs.settings.Settings.tcr_open.Tie as tie
+
+bit-requires : tie.Need-bit-requires
+bit-requires c κs = search needs
+
+bit-requires-2 : tie.Need-bit-requires-2
+bit-requires-2 c κs = search needs
+
+returns : tie.Need-returns
+unfolding tcrOpen
+returns c = simp (c .bit2 .ensures, c .before .bit .ensures)
+
+pub tcr-open-spec : {M : Type 1} → statement M
+tcr-open-spec = tie.close (tie.spec bit-requires bit-requires-2 returns)
