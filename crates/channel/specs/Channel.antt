@@ -14,20 +14,20 @@ use Rattle.registers.specs.Windows.{same}
 use Rattle.registers.specs.Writes.{resetFrom}
 use Rattle.registers.specs.Arrivals.{gateOf, roomOf}
 use Rattle.registers.specs.Touches.{settingsAfter, receiveAct, transmitAct}
-use Rattle.channel.specs.declared.receive.Line.{Line}
-use Rattle.channel.specs.declared.receive.Status.{Status}
-use Rattle.channel.specs.declared.transmit.Shift.{Shift}
-use Rattle.channel.specs.declared.flags.Moment.{Moment}
-use Rattle.channel.specs.declared.interrupt.Interrupt.{Interrupt}
-use Rattle.channel.specs.declared.interrupt.Interrupt.the-variants as interrupt
+use Rattle.lines.specs.declared.receive.Line.{Line}
+use Rattle.lines.specs.declared.receive.Status.{Status}
+use Rattle.lines.specs.declared.transmit.Shift.{Shift}
+use Rattle.lines.specs.declared.flags.Moment.{Moment}
+use Rattle.lines.specs.declared.interrupt.Interrupt.{Interrupt}
+use Rattle.lines.specs.declared.interrupt.Interrupt.the-variants as interrupt
 use Rattle.channel.specs.declared.channel.Channel.{Channel}
 use Rattle.channel.specs.declared.channel.Touched.{Touched}
-use Rattle.channel.specs.Receive.{lineAfter, fateNumber, lsrOf}
-use Rattle.channel.specs.Transmit.{spacesOf, isBusy, shiftAfter, slotReply, thrCondition}
-use Rattle.channel.specs.Rts.{latchAfter, rtsOf}
-use Rattle.channel.specs.Modem.{ctsAsserted, modemAfter, msrOf}
-use Rattle.channel.specs.Interrupts.{pendingOf, iirOf}
-use Rattle.channel.specs.Flags.{flagsAfter, flagsSettled}
+use Rattle.lines.specs.Receive.{lineAfter, fateNumber, lsrOf}
+use Rattle.lines.specs.Transmit.{spacesOf, isBusy, shiftAfter, slotReply, thrCondition}
+use Rattle.lines.specs.Rts.{latchAfter, rtsOf}
+use Rattle.lines.specs.Modem.{ctsAsserted, modemAfter, msrOf}
+use Rattle.lines.specs.Interrupts.{pendingOf, iirOf}
+use Rattle.lines.specs.Flags.{flagsAfter, flagsSettled}
 
 -- what may be asked of a record: "its counts, places and stored values within their bounds"
 pub record WellFormed (ch : Channel) : Type 0 where

@@ -1,17 +1,17 @@
 // The record of a channel, and what an event that touches it makes of it.
-use crate::flags::Flags;
-use crate::flags::Moment;
-use crate::interrupt::Interrupt;
-use crate::interrupt::pending;
-use crate::modem::Modem;
-use crate::receive::Line;
-use crate::receive::Status;
-use crate::receive::fate;
-use crate::rts::latch_after;
-use crate::rts::rts;
-use crate::transmit::Shift;
-use crate::transmit::spaces;
-use crate::transmit::thr_condition;
+use lines::Flags;
+use lines::Interrupt;
+use lines::Line;
+use lines::Modem;
+use lines::Moment;
+use lines::Shift;
+use lines::Status;
+use lines::fate;
+use lines::latch_after;
+use lines::pending;
+use lines::rts_asserted;
+use lines::spaces;
+use lines::thr_condition;
 use queue::Queue;
 use registers::Register;
 use registers::Settings;
@@ -42,7 +42,7 @@ fn moment(settings: Settings, latch: bool, shift: Shift, count: u8) -> Moment
     ensures { λ r. ⌜ r ≡ momentOf settings latch shift count ⌝ }
 {
     Moment {
-        rts: rts(settings, latch, shift.busy(count)),
+        rts: rts_asserted(settings, latch, shift.busy(count)),
         thr: thr_condition(settings, count),
     }
 }
@@ -163,7 +163,7 @@ impl Channel {
         let settings = self.settings;
         let shift = self.shift;
         let count = self.tx.count;
-        rts(settings, self.latch, shift.busy(count))
+        rts_asserted(settings, self.latch, shift.busy(count))
     }
 
     // The interrupt that a touch shows: a read of IIR alone shows one.

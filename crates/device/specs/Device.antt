@@ -9,7 +9,7 @@ use Rattle.event.specs.declared.events.Made.the-variants as made
 use Rattle.registers.specs.declared.settings.Settings.{Settings}
 use Rattle.registers.specs.declared.touch.Touch.{Touch}
 use Rattle.channel.specs.declared.channel.Channel.{Channel}
-use Rattle.channel.specs.Interrupts.{isPending}
+use Rattle.lines.specs.Interrupts.{isPending}
 use Rattle.channel.specs.Channel as channel
 use Rattle.channel.specs.Channel.{pendingAt, rtsAsserted, touchedOf, resetOf, blankChannel}
 use Rattle.device.specs.declared.side.Side.{Side}

@@ -6,12 +6,12 @@ use Rattle.channel.proofs.channel.Channel.rts.Tie as tie
 busy-requires : tie.Need-busy-requires
 busy-requires c κs = search needs
 
-rts-requires : tie.Need-rts-requires
-rts-requires c κs = search needs
+rts-asserted-requires : tie.Need-rts-asserted-requires
+rts-asserted-requires c κs = search needs
 
 returns : tie.Need-returns
 unfolding rtsAsserted
-returns c = simp (c .rts .ensures, c .before .busy .ensures)
+returns c = simp (c .rts-asserted .ensures, c .before .busy .ensures)
 
 pub rts-spec : {M : Type 1} → statement M
-rts-spec = tie.close (tie.spec busy-requires rts-requires returns)
+rts-spec = tie.close (tie.spec busy-requires rts-asserted-requires returns)

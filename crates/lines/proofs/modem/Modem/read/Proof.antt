@@ -1,0 +1,18 @@
+use borrow.Author.Needs.{needs}
+use Rattle.lines.specs.Modem.{modemRead}
+use Rattle.lines.proofs.modem.Modem.read.Statement.{statement}
+use Rattle.lines.proofs.modem.Modem.read.Tie as tie
+
+is-requires : tie.Need-is-requires
+is-requires c κs = search needs
+
+returns : tie.Need-returns
+unfolding modemRead
+returns c = simp (c .if1 .taken, ← (c .before .is .ensures))
+
+returns-2 : tie.Need-returns-2
+unfolding modemRead
+returns-2 c = simp (c .if1 .left, ← (c .before .is .ensures))
+
+pub read-spec : {M : Type 1} → statement M
+read-spec = tie.close (tie.spec is-requires returns returns-2)

@@ -1,0 +1,40 @@
+-- "Pins", of "Interrupts". Pin values: CD 8, RI 4, DSR 2, CTS 1.
+use Prim.Native.Nat.{ℕ, _+_, _*_}
+use mathlib.Core.Bool.{Bool, not, _&&_}
+use lib.Bits.{bitOr, bitXor}
+use Rattle.bits.specs.Choice.{pick}
+use Rattle.bits.specs.Bits.{bitAt}
+use Rattle.registers.specs.declared.register.Register.{Register}
+use Rattle.registers.specs.declared.register.Register.the-variants as register
+use Rattle.registers.specs.declared.settings.Settings.{Settings}
+use Rattle.registers.specs.declared.touch.Touch.{Touch}
+use Rattle.registers.specs.declared.touch.Touch.the-variants as touch
+use Rattle.registers.specs.Windows.{same}
+use Rattle.lines.specs.declared.modem.Modem.{Modem}
+
+unfoldable pub ctsAsserted : Modem → Bool
+ctsAsserted m = bitAt (m .pins) 0
+
+-- "CTS going off sets the CTS flag unless EFR 7 is set."
+unfoldable pub ctsOff : Modem → Settings → ℕ → Bool
+ctsOff m s value = ctsAsserted m && not (bitAt value 0) && not (bitAt (s .efr) 7)
+
+-- "MSR 3:0 are set by any change of the same pin": the bits where old and new value differ join those that were set
+unfoldable pub pinsChanged : Modem → ℕ → Modem
+pinsChanged m value = record { pins = value; changes = bitOr (m .changes) (bitXor (m .pins) value) }
+
+-- ".. and cleared by an MSR read"
+unfoldable pub modemRead : Modem → Register → Modem
+modemRead m read = pick (same read register.Msr) (record { pins = m .pins; changes = 0 }) m
+
+unfoldable pub modemAfter : Modem → Touch → Modem
+modemAfter m (touch.Write written byte) = m
+modemAfter m (touch.Read read) = modemRead m read
+modemAfter m (touch.Arrival byte mark) = m
+modemAfter m touch.Slot = m
+modemAfter m (touch.Pins value) = pinsChanged m value
+modemAfter m touch.Quiet = m
+
+-- "MSR 7:4 show CD, RI, DSR, CTS; MSR 3:0" the changes
+unfoldable pub msrOf : Modem → ℕ
+msrOf m = m .changes + m .pins * 16
