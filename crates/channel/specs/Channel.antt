@@ -11,7 +11,7 @@ use Rattle.registers.specs.declared.settings.Settings.{Settings}
 use Rattle.registers.specs.declared.touch.Touch.{Touch}
 use Rattle.registers.specs.declared.touch.Touch.the-variants as touch
 use Rattle.registers.specs.Windows.{same}
-use Rattle.registers.specs.Writes.{resetFrom}
+use Rattle.registers.specs.Writes.{resetFrom, blankSettings}
 use Rattle.registers.specs.Arrivals.{gateOf, roomOf}
 use Rattle.registers.specs.Touches.{settingsAfter, receiveAct, transmitAct}
 use Rattle.lines.specs.declared.receive.Line.{Line}
@@ -178,24 +178,7 @@ resetOf ch lcr =
 unfoldable pub blankChannel : Channel
 blankChannel =
     record {
-      settings =
-          record {
-            lcr = 0;
-            ier = 0;
-            fcr = 0;
-            mcr = 0;
-            spr = 0;
-            efr = 0;
-            efcr = 0;
-            tcr = 0;
-            tlr = 0;
-            dll = 0;
-            dlh = 0;
-            xon1 = 0;
-            xon2 = 0;
-            xoff1 = 0;
-            xoff2 = 0;
-          };
+      settings = blankSettings;
       rx = emptyQueue;
       tx = emptyQueue;
       line = record { overrun = false; quiet = 0 };

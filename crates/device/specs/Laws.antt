@@ -104,20 +104,20 @@ well-formed-answered d (made.Event e) range ok = well-formed-step d e range ok
 well-formed-answered d (made.Refused r) range ok = ok
 
 -- ---- an event of one channel leaves the other channel's record exactly as it was, save a reset
-abbrev pub other : Side → Side
-other side.A = side.B
-other side.B = side.A
+abbrev pub otherSide : Side → Side
+otherSide side.A = side.B
+otherSide side.B = side.A
 
-other-kept : (d : Device) (at : Side) (ch : Channel) → channelAt (withChannel d at ch) (other at) ≡ channelAt d (other at)
+other-kept : (d : Device) (at : Side) (ch : Channel) → channelAt (withChannel d at ch) (otherSide at) ≡ channelAt d (otherSide at)
 other-kept d side.A ch = refl
 other-kept d side.B ch = refl
 
 pub other-channel-alone : (d : Device) (e : Event) → (effectOf (settingsAt d (sideOf e)) e ≡ effect.Reset → ⊥)
-    → channelAt (stepOf d e .device) (other (sideOf e)) ≡ channelAt d (other (sideOf e))
+    → channelAt (stepOf d e .device) (otherSide (sideOf e)) ≡ channelAt d (otherSide (sideOf e))
 unfolding stepOf touchedAt
 other-channel-alone d e kept = go (effectOf (settingsAt d (sideOf e)) e) refl
   where
-    go : (f : Effect) → effectOf (settingsAt d (sideOf e)) e ≡ f → channelAt (effected d e f .device) (other (sideOf e)) ≡ channelAt d (other (sideOf e))
+    go : (f : Effect) → effectOf (settingsAt d (sideOf e)) e ≡ f → channelAt (effected d e f .device) (otherSide (sideOf e)) ≡ channelAt d (otherSide (sideOf e))
     go (effect.Touch t) h = other-kept d (sideOf e) (touchedOf (channelAt d (sideOf e)) t .channel)
     go effect.Reset h = absurd (kept h)
     go effect.Nothing h = refl

@@ -80,3 +80,28 @@ resetFrom s lcr =
       xoff1 = s .xoff1;
       xoff2 = s .xoff2;
     }
+
+-- every stored byte 0
+abbrev pub blankSettings : Settings
+blankSettings =
+    record {
+      lcr = 0;
+      ier = 0;
+      fcr = 0;
+      mcr = 0;
+      spr = 0;
+      efr = 0;
+      efcr = 0;
+      tcr = 0;
+      tlr = 0;
+      dll = 0;
+      dlh = 0;
+      xon1 = 0;
+      xon2 = 0;
+      xoff1 = 0;
+      xoff2 = 0;
+    }
+
+-- "A new device is a reset one with those bytes .. 0."
+abbrev pub newSettings : Settings
+newSettings = resetFrom blankSettings 0x1D

@@ -1,0 +1,1 @@
+// Theorems over every history. They stand in specs/; there is no code here.
