@@ -28,20 +28,8 @@ use Rattle.device.specs.Device as device
 use Rattle.device.specs.Device.{channelAt, withChannel, settingsAt, touchedAt, resetDevice, newDevice, effected, stepOf, answeredOf}
 use Rattle.device.specs.Laws.{MadeIn, otherSide, well-formed-new, well-formed-at, well-formed-answered}
 use Rattle.history.specs.Judge.{Line, freshLine, lineAfter, Ledger, settingsOf, freshLedger, ledgerAfter, isSide, judgedBy, judgedFrom, judgement}
+use Rattle.history.specs.Demand3.{ranFrom, ran, AllIn}
 use Rattle.history.specs.Line.{Holds, holds-acted}
-
--- ---- a device after a history: each event in turn, from a new one
-abbrev pub ranFrom : Device → List Made → Device
-ranFrom d [] = d
-ranFrom d (m ∷ history) = ranFrom (answeredOf d m .device) history
-
-abbrev pub ran : List Made → Device
-ran history = ranFrom newDevice history
-
--- each of a history is an event in range or a refusal, as all are that are made from numbers or judged
-abbrev pub AllIn : List Made → Type 0
-AllIn [] = Unit {0}
-AllIn (m ∷ history) = MadeIn m × AllIn history
 
 -- ---- agreement
 pub record Agrees (w : Side) (d : Device) (l : Ledger) : Type 0 where
@@ -50,11 +38,17 @@ pub record Agrees (w : Side) (d : Device) (l : Ledger) : Type 0 where
   pub holds : Holds (channelAt d w .rx) (l .line)
 
 -- an event of a channel is of its own or of the other
-side-of : (w at : Side) → at ≡ pick (isSide w at) w (otherSide w)
+pub side-of : (w at : Side) → at ≡ pick (isSide w at) w (otherSide w)
 side-of side.A side.A = refl
 side-of side.A side.B = refl
 side-of side.B side.A = refl
 side-of side.B side.B = refl
+
+pub own-side : (w at : Side) → isSide w at ≡ true → at ≡ w
+own-side w at own = rw own at (side-of w at)
+
+pub other-side : (w at : Side) → isSide w at ≡ false → at ≡ otherSide w
+other-side w at own = rw own at (side-of w at)
 
 -- a channel that is touched
 touched-settings : (ch : Channel) (s : Settings) (t : Touch) → ch .settings ≡ s → touchedOf ch t .channel .settings ≡ settingsAfter s t
@@ -68,7 +62,7 @@ touched-holds ch s t l e ok h =
     rw (← e) (holds-acted (ch .rx) l (receiveAct (ch .settings) t) (roomOf (ch .settings)) (ok .rx-in) (room-in (ch .settings)) h)
 
 -- the device with another record for a channel, seen at each channel
-seen-own : (d : Device) (w : Side) (ch : Channel) → channelAt (withChannel d w ch) w ≡ ch
+pub seen-own : (d : Device) (w : Side) (ch : Channel) → channelAt (withChannel d w ch) w ≡ ch
 seen-own d side.A ch = refl
 seen-own d side.B ch = refl
 
@@ -76,7 +70,7 @@ seen-other : (d : Device) (w : Side) (ch : Channel) → channelAt (withChannel d
 seen-other d side.A ch = refl
 seen-other d side.B ch = refl
 
-seen-from-other : (d : Device) (w : Side) (ch : Channel) → channelAt (withChannel d (otherSide w) ch) w ≡ channelAt d w
+pub seen-from-other : (d : Device) (w : Side) (ch : Channel) → channelAt (withChannel d (otherSide w) ch) w ≡ channelAt d w
 seen-from-other d side.A ch = refl
 seen-from-other d side.B ch = refl
 
@@ -84,7 +78,7 @@ seen-at-other : (d : Device) (w : Side) (ch : Channel) → channelAt (withChanne
 seen-at-other d side.A ch = refl
 seen-at-other d side.B ch = refl
 
-reset-seen : (d : Device) (w : Side) → channelAt (resetDevice d) w ≡ resetOf (channelAt d w) 0x1D
+pub reset-seen : (d : Device) (w : Side) → channelAt (resetDevice d) w ≡ resetOf (channelAt d w) 0x1D
 unfolding resetDevice
 reset-seen d side.A = refl
 reset-seen d side.B = refl
@@ -92,7 +86,7 @@ reset-seen d side.B = refl
 module _ (w : Side) (d : Device) (l : Ledger) (ok : device.WellFormed d) (h : Agrees w d l) where
   -- each effect, at the own channel or at the other
   agrees-touched : (own : Bool) (t : Touch) → Agrees w (touchedAt d (pick own w (otherSide w)) t .device) (ledgerAfter l own (effect.Touch t))
-  unfolding touchedAt ledgerAfter
+  unfolding touchedAt ledgerAfter lineAfter
   agrees-touched true t =
       record {
         own = rw (seen-own d w (touchedOf (channelAt d w) t .channel)) (touched-settings (channelAt d w) (l .own) t (h .own));
@@ -107,7 +101,7 @@ module _ (w : Side) (d : Device) (l : Ledger) (ok : device.WellFormed d) (h : Ag
       }
 
   agrees-reset : (own : Bool) → Agrees w (resetDevice d) (ledgerAfter l own effect.Reset)
-  unfolding ledgerAfter resetOf
+  unfolding ledgerAfter lineAfter resetOf
   agrees-reset own =
       record {
         own = rw (reset-seen d w, h .own);
@@ -119,7 +113,7 @@ module _ (w : Side) (d : Device) (l : Ledger) (ok : device.WellFormed d) (h : Ag
   touched-at at own t e = rw e (agrees-touched own t)
 
   agrees-effected : (e : Event) (f : Effect) → Agrees w (effected d e f .device) (ledgerAfter l (isSide w (sideOf e)) f)
-  unfolding ledgerAfter
+  unfolding ledgerAfter lineAfter
   agrees-effected e (effect.Touch t) = touched-at (sideOf e) (isSide w (sideOf e)) t (side-of w (sideOf e))
   agrees-effected e effect.Reset = agrees-reset (isSide w (sideOf e))
   agrees-effected e effect.Nothing = h
@@ -137,7 +131,7 @@ module _ (w : Side) (d : Device) (l : Ledger) (ok : device.WellFormed d) (h : Ag
   unfolding stepOf judgedBy
   agrees-step e = rw (← same-settings (sideOf e)) (agrees-effected e (effectOf (settingsAt d (sideOf e)) e))
 
-agrees-answered : (w : Side) (d : Device) (l : Ledger) (m : Made) → device.WellFormed d → Agrees w d l → Agrees w (answeredOf d m .device) (judgedBy w l m)
+pub agrees-answered : (w : Side) (d : Device) (l : Ledger) (m : Made) → device.WellFormed d → Agrees w d l → Agrees w (answeredOf d m .device) (judgedBy w l m)
 unfolding answeredOf judgedBy
 agrees-answered w d l (made.Event e) ok h = agrees-step w d l ok h e
 agrees-answered w d l (made.Refused r) ok h = h

@@ -3,7 +3,7 @@
 -- "What the fate rules call queued is there judged from the history, as kept less read since the clear, and a read finds
 -- a character exactly if that isn't 0."
 use Prim.Native.Nat.{ℕ, _+_, _-_}
-use mathlib.Core.Bool.{Bool, true, false}
+use mathlib.Core.Bool.{Bool, true, false, not}
 use mathlib.Core.List.{List, [], _∷_, _++_}
 use lib.ListN.{length, drop}
 use lib.Dec.{eqb, ltb}
@@ -63,13 +63,27 @@ freshLedger = record { own = newSettings; other = newSettings; line = freshLine 
 abbrev pub settingsOf : Ledger → Bool → Settings
 settingsOf l own = pick own (l .own) (l .other)
 
--- the ledger after what an event does, to its own channel or to the other
+-- what an event does to a channel's stored registers, where it names that channel or the other
+abbrev pub settingsBy : Bool → Effect → Settings → Settings
+settingsBy true (effect.Touch t) s = settingsAfter s t
+settingsBy false (effect.Touch t) s = s
+settingsBy named effect.Reset s = resetFrom s 0x1D
+settingsBy named effect.Nothing s = s
+
+-- and what it does to what the channel has kept and read
+abbrev pub lineAct : Bool → Effect → Settings → Act
+lineAct true (effect.Touch t) s = receiveAct s t
+lineAct false (effect.Touch t) s = act.Nothing
+lineAct named effect.Reset s = act.Clear
+lineAct named effect.Nothing s = act.Nothing
+
 unfoldable pub ledgerAfter : Ledger → Bool → Effect → Ledger
-ledgerAfter l true (effect.Touch t) =
-    record { own = settingsAfter (l .own) t; other = l .other; line = lineAfter (l .line) (receiveAct (l .own) t) (roomOf (l .own)) }
-ledgerAfter l false (effect.Touch t) = record { own = l .own; other = settingsAfter (l .other) t; line = l .line }
-ledgerAfter l own effect.Reset = record { own = resetFrom (l .own) 0x1D; other = resetFrom (l .other) 0x1D; line = freshLine }
-ledgerAfter l own effect.Nothing = l
+ledgerAfter l own f =
+    record {
+      own = settingsBy own f (l .own);
+      other = settingsBy (not own) f (l .other);
+      line = lineAfter (l .line) (lineAct own f (l .own)) (roomOf (l .own));
+    }
 
 -- whether two sides are one
 abbrev pub isSide : Side → Side → Bool

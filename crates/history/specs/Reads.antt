@@ -1,20 +1,128 @@
--- What a read of the receive register, of LSR and of RXLVL gives, by the list that the receive queue stands for.
+-- What reads and arrivals reply, by the list that the receive queue stands for.
 use Prim.Native.Nat.{ℕ, _+_, _-_, _*_, _/_, _%_, _<_, _≤_}
 use native.Mathlib.Omega.{arith}
 use mathlib.Core.Path.{_≡_, refl, sym, ap, _∙_}
 use mathlib.Core.Bool.{Bool, true, false, not}
-use mathlib.Core.List.{List, [], _∷_}
-use lib.ListN.{length, getD, drop}
-use lib.Dec.{eqb}
+use mathlib.Core.List.{List}
+use lib.ListN.{length, getD}
+use lib.Dec.{eqb, ltb}
 use Rattle.bits.specs.Bits.{oneIf, partAt, bitAt}
 use Rattle.bits.specs.Laws.{one-if-in}
+use Rattle.queue.specs.declared.Character.{Character}
+use Rattle.queue.specs.declared.Queue.{Queue}
+use Rattle.queue.specs.Queue.{none, actedOn}
+use Rattle.queue.specs.List.{items, someMark}
+use Rattle.queue.specs.Laws.{length-items, added-kept, oldest-head, oldest-mark-below, any-mark-items}
+use Rattle.event.specs.declared.events.Event.the-variants as event
+use Rattle.registers.specs.declared.register.Register.{Register}
+use Rattle.registers.specs.declared.register.Register.the-variants as register
+use Rattle.registers.specs.declared.arrival.Gate.{Gate}
+use Rattle.registers.specs.declared.arrival.Gate.the-variants as gate
+use Rattle.registers.specs.declared.settings.Settings.{Settings}
+use Rattle.registers.specs.declared.touch.Touch.the-variants as touch
+use Rattle.registers.specs.Windows.{same, registerAt}
+use Rattle.registers.specs.Arrivals.{arrivedByte, gateOf, roomOf}
+use Rattle.registers.specs.Touches.{offered, receivedBy, receiveAct}
 use Rattle.lines.specs.declared.receive.Status.{Status}
-use Rattle.lines.specs.Receive.{lsrOf}
+use Rattle.lines.specs.declared.interrupt.Interrupt.{Interrupt}
+use Rattle.lines.specs.Receive.{fateNumber, lsrOf}
+use Rattle.channel.specs.declared.channel.Channel.{Channel}
+use Rattle.channel.specs.Channel.{WellFormed, shownBy, statusOf, readOf, replyOf, touchedOf}
+use Rattle.device.specs.declared.side.Side.{Side}
+use Rattle.device.specs.declared.side.Side.the-variants as side
+use Rattle.device.specs.declared.device.Device.{Device}
+use Rattle.device.specs.Effects.{sideNumbered, sideOf, effectOf, readEffect}
+use Rattle.device.specs.Device.{channelAt, settingsAt, touchedAt, stepOf}
+use Rattle.history.specs.Demand3.{number}
+
+-- ---- the bits of LSR
+lsr-parts : (a b m c d e : ℕ) → a ≤ 1 → b ≤ 1 → m < 8 → c ≤ 1 → d ≤ 1 → e ≤ 1
+    → ((a + b * 2 + m * 4 + c * 32 + d * 64 + e * 128) / 4 % 8 ≡ m)
+    × ((a + b * 2 + m * 4 + c * 32 + d * 64 + e * 128) / 1 % 2 ≡ a)
+    × ((a + b * 2 + m * 4 + c * 32 + d * 64 + e * 128) / 128 % 2 ≡ e)
+lsr-parts a b m c d e ha hb hm hc hd he = omega arith
+
+flag-in : (condition : Bool) → oneIf condition ≤ 1
+flag-in condition = one-if-in condition refl
+
+flag-set : (condition : Bool) → eqb (oneIf condition) 1 ≡ condition
+unfolding oneIf
+flag-set true = refl
+flag-set false = refl
 
 module _ (l : Status) (mark-in : l .mark < 8) where
-  -- LSR by numbers: its flags are 0 or 1
-  lsr-parts : (a b m c d e : ℕ) → a ≤ 1 → b ≤ 1 → m < 8 → c ≤ 1 → d ≤ 1 → e ≤ 1
-      → ((a + b * 2 + m * 4 + c * 32 + d * 64 + e * 128) / 4 % 8 ≡ m)
-      × ((a + b * 2 + m * 4 + c * 32 + d * 64 + e * 128) / 1 % 2 ≡ a)
-      × ((a + b * 2 + m * 4 + c * 32 + d * 64 + e * 128) / 128 % 2 ≡ e)
-  lsr-parts a b m c d e ha hb hm hc hd he = omega arith
+  parts : ((lsrOf l / 4 % 8 ≡ l .mark) × (lsrOf l / 1 % 2 ≡ oneIf (l .ready)) × (lsrOf l / 128 % 2 ≡ oneIf (l .error)))
+  unfolding lsrOf
+  parts =
+      lsr-parts (oneIf (l .ready)) (oneIf (l .overrun)) (l .mark) (oneIf (l .sent)) (oneIf (l .idle)) (oneIf (l .error))
+      (flag-in (l .ready)) (flag-in (l .overrun)) mark-in (flag-in (l .sent)) (flag-in (l .idle)) (flag-in (l .error))
+
+  pub lsr-marks : partAt (lsrOf l) 2 3 ≡ l .mark
+  unfolding partAt
+  lsr-marks = parts .0
+
+  pub lsr-ready : bitAt (lsrOf l) 0 ≡ l .ready
+  unfolding bitAt partAt
+  lsr-ready = rw (parts .1) (flag-set (l .ready))
+
+  pub lsr-error : bitAt (lsrOf l) 7 ≡ l .error
+  unfolding bitAt partAt
+  lsr-error = rw (parts .2) (flag-set (l .error))
+
+-- ---- a read of an address goes to the register that it names
+side-number : (w : Side) → sideNumbered (number w) ≡ w
+unfolding sideNumbered
+side-number side.A = refl
+side-number side.B = refl
+
+module _ (d : Device) (w : Side) where
+  pub read-reply : (address : ℕ) (r : Register) → registerAt (channelAt d w .settings) address ≡ r → same r register.Closed ≡ false
+      → stepOf d (event.Read (number w) address) .reply ≡ readOf (channelAt d w) r (shownBy (channelAt d w) (touch.Read r))
+  unfolding stepOf sideOf effectOf readEffect settingsAt touchedAt touchedOf replyOf
+  read-reply address r named seen = rw (side-number w, named, seen) (rw (side-number w))
+
+  -- an arrival's reply, where the queue keeps it or not
+  pub arrival-reply : (byte mark : ℕ)
+      → stepOf d (event.Arrival (number w) byte mark) .reply
+      ≡ fateNumber (gateOf (channelAt d w .settings) byte mark)
+      (actedOn (channelAt d w .rx) (receiveAct (channelAt d w .settings) (touch.Arrival byte mark)) (roomOf (channelAt d w .settings)) .kept)
+  unfolding stepOf sideOf effectOf settingsAt touchedAt touchedOf replyOf
+  arrival-reply byte mark = rw (side-number w)
+
+-- what passes is kept exactly if fewer than room are queued
+pub fate-kept : (q : Queue) (s : Settings) (byte mark : ℕ)
+    → fateNumber (gateOf s byte mark) (actedOn q (receiveAct s (touch.Arrival byte mark)) (roomOf s) .kept)
+    ≡ fateNumber (gateOf s byte mark) (ltb (length (items q)) (roomOf s))
+unfolding receiveAct receivedBy actedOn fateNumber
+fate-kept q s byte mark = go (gateOf s byte mark) (record { byte = arrivedByte s byte mark; mark = mark })
+  where
+    go : (g : Gate) (c : Character) → fateNumber g (actedOn q (offered g c) (roomOf s) .kept) ≡ fateNumber g (ltb (length (items q)) (roomOf s))
+    go gate.Passes c = ap (fateNumber gate.Passes) (added-kept q c (roomOf s))
+    go gate.Off c = refl
+    go gate.Elsewhere c = refl
+
+-- ---- what a channel's reads give, by the list that its receive queue stands for
+module _ (ch : Channel) (ok : WellFormed ch) (shown : Interrupt) where
+  pub rhr-read : readOf ch register.Rhr shown ≡ getD (items (ch .rx)) 0 none .byte
+  unfolding readOf
+  rhr-read = ap (λ (c : Character). c .byte) (oldest-head (ch .rx) (ok .rx-in))
+
+  pub rxlvl-read : readOf ch register.Rxlvl shown ≡ length (items (ch .rx))
+  unfolding readOf
+  rxlvl-read = sym (length-items (ch .rx))
+
+  mark-in : statusOf ch .mark < 8
+  unfolding statusOf
+  mark-in = oldest-mark-below 8 (ch .rx) (omega arith) (ok .marks-in)
+
+  pub lsr-marks-read : partAt (readOf ch register.Lsr shown) 2 3 ≡ getD (items (ch .rx)) 0 none .mark
+  unfolding readOf statusOf
+  lsr-marks-read = lsr-marks (statusOf ch) mark-in ∙ ap (λ (c : Character). c .mark) (oldest-head (ch .rx) (ok .rx-in))
+
+  pub lsr-ready-read : bitAt (readOf ch register.Lsr shown) 0 ≡ not (eqb (length (items (ch .rx))) 0)
+  unfolding readOf statusOf
+  lsr-ready-read = lsr-ready (statusOf ch) mark-in ∙ ap (λ (n : ℕ). not (eqb n 0)) (sym (length-items (ch .rx)))
+
+  pub lsr-error-read : bitAt (readOf ch register.Lsr shown) 7 ≡ someMark (items (ch .rx))
+  unfolding readOf statusOf
+  lsr-error-read = lsr-error (statusOf ch) mark-in ∙ any-mark-items (ch .rx)

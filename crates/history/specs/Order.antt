@@ -1,0 +1,45 @@
+-- The reads that found a character gave what was kept, in order.
+use Prim.Native.Nat.{ℕ, _+_, _-_, _<_, _≤_}
+use native.Mathlib.Numerals.{add-one}
+use native.Mathlib.Omega.{arith}
+use mathlib.Core.Path.{_≡_, refl, sym, ap, _∙_}
+use mathlib.Core.Bool.{Bool, true, false}
+use mathlib.Core.List.{List, [], _∷_, _++_, map, map-append}
+use lib.ListN.{length, getD, take, drop}
+use lib.Seq.{take-suc, take-append-le, getD-drop}
+use lib.Dec.{eqb, ltb}
+use borrow.Author.Tests.{eqb-false}
+use Rattle.bits.specs.Choice.{pick, pick-by}
+use Rattle.queue.specs.declared.Character.{Character}
+use Rattle.queue.specs.declared.Act.{Act}
+use Rattle.queue.specs.declared.Act.the-variants as act
+use Rattle.queue.specs.Queue.{none}
+use Rattle.history.specs.Judge.{Line, freshLine, queued, unread, lineAfter}
+use Rattle.history.specs.Demand3.{foundAfter}
+use Rattle.history.specs.Line.{Within}
+
+abbrev bytesOf : List Character → List ℕ
+bytesOf cs = map (λ c. c .byte) cs
+
+-- what was found so far is what was kept, up to the reads counted
+abbrev pub InOrder : Line → List ℕ → Type 0
+InOrder l found = found ≡ bytesOf (take (l .read) (l .kept))
+
+-- one act: a read that finds a character replies with the next unread
+pub in-order-after : (a : Act) (room : ℕ) (l : Line) (reply : ℕ) (found : List ℕ) → Within l
+    → (a ≡ act.Take → (queued l ≡ 0 → ⊥) → reply ≡ getD (l .kept) (l .read) none .byte)
+    → InOrder l found → InOrder (lineAfter l a room) (foundAfter a l reply found)
+unfolding lineAfter foundAfter
+in-order-after (act.Add c) room l reply found within next h =
+    pick-by (λ (m : Line). InOrder m found) (ltb (queued l) room) (λ _. rw (take-append-le (l .read) (l .kept) (c ∷ []) within) h) (λ _. h)
+in-order-after act.Take room l reply found within next h = go (eqb (queued l) 0) refl
+  where
+    go : (empty : Bool) → eqb (queued l) 0 ≡ empty
+        → InOrder (pick empty l (record { kept = l .kept; read = l .read + 1 })) (pick empty found (found ++ (reply ∷ [])))
+    go true e = h
+    go false e =
+        let some : (queued l ≡ 0 → ⊥) = eqb-false (queued l) 0 e in
+        let inside : l .read < length (l .kept) = omega (arith, some) in
+        rw (add-one, take-suc (l .kept) (l .read) none inside, map-append, h, next refl some)
+in-order-after act.Clear room l reply found within next h = refl
+in-order-after act.Nothing room l reply found within next h = h
