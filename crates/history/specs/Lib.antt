@@ -7,3 +7,4 @@ pub mod Reads
 pub mod Order
 pub mod Alone
 pub mod Proved
+pub mod Table

@@ -1,0 +1,100 @@
+-- P1 to P12 of "Cases on each side", as one table: what the definitions give, beside what document 01 says.
+use Prim.Native.Nat.{ℕ}
+use mathlib.Core.Path.{_≡_, refl}
+use mathlib.Core.List.{List, [], _∷_, _++_, map}
+use lib.ListN.{replicate}
+use Rattle.bits.specs.Bits.{oneIf, bitAt, partAt, replacedAt, cutTo}
+use Rattle.queue.specs.Queue.{emptyQueue, behind, addedTo, clearedFrom, oldestOf, markedFrom, anyMarkOf, actedOn}
+use Rattle.event.specs.declared.events.Event.{Event}
+use Rattle.event.specs.declared.events.Event.the-variants as event
+use Rattle.event.specs.declared.number.Number.{Number}
+use Rattle.event.specs.declared.number.Number.the-variants as number
+use Rattle.event.specs.Refusals.{refusalNumber}
+use Rattle.event.specs.Numbers.{secondAt, numberAt}
+use Rattle.registers.specs.Windows.{generalAt, enhancedAt, registerAt}
+use Rattle.registers.specs.Writes.{guardOpen, ierWritten, fcrWritten, efcrWritten, writtenTo, resetFrom}
+use Rattle.registers.specs.Arrivals.{arrivedByte, equalsXoff2, unlessOff, gateOf, efcrHeard, heardBy, roomOf}
+use Rattle.registers.specs.Levels.{fours, transmitLevel}
+use Rattle.registers.specs.Touches.{settingsAfter, clears, clearing, receivedBy, receiveAct, sentBy, transmitAct}
+use Rattle.lines.specs.Receive.{overrunAfter, lineAfter, fateNumber, lsrOf}
+use Rattle.lines.specs.Transmit.{shiftAfter, thrCondition}
+use Rattle.lines.specs.Interrupts.{codeOf, lineStatusPending, timeoutPending, receivePending, transmitPending, modemPending, specialPending, flowPending, pendingOf, iirOf}
+use Rattle.lines.specs.Flags.{flagsCleared, flagsRead, flagsAfter, flagsSettled}
+use Rattle.channel.specs.Channel.{pendingAt, momentOf, shownBy, statusOf, readOf, replyOf, actOf, latched, settled, touchedOf, resetOf, blankChannel}
+use Rattle.device.specs.declared.device.Device.{Device}
+use Rattle.device.specs.Effects.{sideNumbered, sideOf, resetsDevice, writeEffect, readEffect, effectOf}
+use Rattle.device.specs.Device.{settingsAt, touchedAt, lookReply, resetDevice, newDevice, stepOf}
+
+-- the replies to events, each in turn from a new device, and the device after them
+abbrev repliesFrom : Device → List Event → List ℕ
+repliesFrom d [] = []
+repliesFrom d (e ∷ es) = stepOf d e .reply ∷ repliesFrom (stepOf d e .device) es
+
+abbrev deviceAfter : Device → List Event → Device
+deviceAfter d [] = d
+deviceAfter d (e ∷ es) = deviceAfter (stepOf d e .device) es
+
+-- the replies to further events after some
+abbrev after : List Event → List Event → List ℕ
+after before further = repliesFrom (deviceAfter newDevice before) further
+
+-- the number at the start of an input, and the refusal of a broken one
+abbrev valueOf : Number → List ℕ
+valueOf (number.Value value next) = value ∷ []
+valueOf (number.Broken r) = []
+
+abbrev refusalOf : Number → List ℕ
+refusalOf (number.Value value next) = []
+refusalOf (number.Broken r) = refusalNumber r ∷ []
+
+-- events of channel 0
+abbrev write : ℕ → ℕ → Event
+write address byte = event.Write 0 address byte
+
+abbrev readAt : ℕ → Event
+readAt address = event.Read 0 address
+
+abbrev arrival : ℕ → ℕ → Event
+arrival byte mark = event.Arrival 0 byte mark
+
+-- LSR 4:2 and LSR 7 of a reply
+abbrev lsrBits : List ℕ → List ℕ
+lsrBits [] = []
+lsrBits (lsr ∷ more) = partAt lsr 2 3 ∷ partAt lsr 7 1 ∷ []
+
+-- 8 data bits, the address 12 in XOFF2, special character detect and 9-bit mode on
+abbrev autoAddress : List Event
+autoAddress = write 3 0xBF ∷ write 7 0x12 ∷ write 2 0x20 ∷ write 3 0x03 ∷ write 15 0x01 ∷ []
+
+pub record Row : Type 0 where
+  pub given : List ℕ
+  pub expected : List ℕ
+
+unfoldable pub table : List Row
+table =
+    -- P1 reset, read IIR: 01
+    record { given = after (event.Reset ∷ []) (readAt 2 ∷ []); expected = 0x01 ∷ [] }
+    -- P2 reset, IER = 02, read IIR twice: 02, 01
+    ∷ record { given = after (event.Reset ∷ write 1 0x02 ∷ []) (readAt 2 ∷ readAt 2 ∷ []); expected = 0x02 ∷ 0x01 ∷ [] }
+    -- P3 the 64th arrival with FIFO on: fate 0; P4 the 65th, none read: 1
+    ∷ record { given = after (write 2 0x01 ∷ replicate 63 (arrival 0x41 0)) (arrival 0x41 0 ∷ arrival 0x41 0 ∷ []); expected = 0 ∷ 1 ∷ [] }
+    -- P5 FIFO off, second arrival: 1
+    ∷ record { given = after (arrival 0x41 0 ∷ []) (arrival 0x41 0 ∷ []); expected = 1 ∷ [] }
+    -- P6 auto-address, XOFF2 = 12, LCR = 03, ninth-bit arrival 12: fate 0, EFCR 1 clear
+    ∷ record { given = after autoAddress (arrival 0x12 1 ∷ readAt 15 ∷ []); expected = 0 ∷ 0x01 ∷ [] }
+    -- P7 arrival 13: fate 3, EFCR 1 set
+    ∷ record { given = after autoAddress (arrival 0x13 1 ∷ readAt 15 ∷ []); expected = 3 ∷ 0x03 ∷ [] }
+    -- P8 FCR = F1 with EFR 4 clear, transmit level: 8 spaces
+    ∷ record { given = transmitLevel (deviceAfter newDevice (write 2 0xF1 ∷ []) .a .settings) .0 ∷ []; expected = 8 ∷ [] }
+    -- P9 marks 0, 2 queued: LSR 4:2 is 0, bit 7 is 1
+    ∷ record { given = lsrBits (after (write 2 0x01 ∷ arrival 0x41 0 ∷ arrival 0x42 2 ∷ []) (readAt 5 ∷ [])); expected = 0 ∷ 1 ∷ [] }
+    -- P10 LCR = BF, read 0: 0
+    ∷ record { given = after (write 3 0xBF ∷ []) (readAt 0 ∷ []); expected = 0 ∷ [] }
+    -- P11 number 80 01: 128; P12 80 00: refusal 1
+    ∷ record { given = valueOf (numberAt (0x80 ∷ 0x01 ∷ []) 0); expected = 128 ∷ [] }
+    ∷ record { given = refusalOf (numberAt (0x80 ∷ 0x00 ∷ []) 0); expected = 1 ∷ [] }
+    ∷ []
+
+pub cases-hold : map (λ row. row .given) table ≡ map (λ row. row .expected) table
+unfolding table oneIf bitAt partAt replacedAt cutTo emptyQueue behind addedTo clearedFrom oldestOf markedFrom anyMarkOf actedOn secondAt numberAt generalAt enhancedAt registerAt guardOpen ierWritten fcrWritten efcrWritten writtenTo resetFrom arrivedByte equalsXoff2 unlessOff gateOf efcrHeard heardBy roomOf fours transmitLevel settingsAfter clears clearing receivedBy receiveAct sentBy transmitAct overrunAfter lineAfter fateNumber lsrOf shiftAfter thrCondition codeOf lineStatusPending timeoutPending receivePending transmitPending modemPending specialPending flowPending pendingOf iirOf flagsCleared flagsRead flagsAfter pendingAt momentOf shownBy statusOf readOf replyOf actOf latched settled touchedOf resetOf blankChannel sideNumbered sideOf resetsDevice writeEffect readEffect effectOf settingsAt touchedAt resetDevice newDevice lookReply stepOf flagsSettled
+cases-hold = refl
