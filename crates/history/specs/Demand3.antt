@@ -30,7 +30,7 @@ use Rattle.device.specs.declared.device.Answer.{Answer}
 use Rattle.device.specs.Effects.{sideOf, effectOf}
 use Rattle.device.specs.Device.{channelAt, newDevice, stepOf, answeredOf}
 use Rattle.device.specs.Laws.{MadeIn}
-use Rattle.history.specs.Judge.{Line, queued, unread, Ledger, settingsOf, lineAct, isSide, judgedBy, freshLedger, judgement}
+use Rattle.history.specs.Judge.{Line, queued, unread, keeps, finds, Ledger, settingsOf, lineAct, isSide, judgedBy, freshLedger, judgement}
 
 -- ---- a device after a history: each event in turn, from a new one, a refused one among them
 abbrev pub ranFrom : Device → List Made → Device
@@ -75,7 +75,7 @@ actBy w l (made.Refused r) = act.Nothing
 
 unfoldable pub foundAfter : Act → Line → ℕ → List ℕ → List ℕ
 foundAfter (act.Add c) l reply found = found
-foundAfter act.Take l reply found = pick (eqb (queued l) 0) found (found ++ (reply ∷ []))
+foundAfter act.Take l reply found = pick (finds l) (found ++ (reply ∷ [])) found
 foundAfter act.Clear l reply found = []
 foundAfter act.Nothing l reply found = found
 
@@ -104,14 +104,14 @@ pub record Demand3 (w : Side) (history : List Made) : Type 0 where
       → partAt (readReply w history address) 2 3 ≡ getD (unread (line w history)) 0 none .mark
   -- LSR 0 is set exactly if there is an unread character
   pub ready : (address : ℕ) → Names w history address register.Lsr
-      → bitAt (readReply w history address) 0 ≡ not (eqb (queued (line w history)) 0)
+      → bitAt (readReply w history address) 0 ≡ finds (line w history)
   -- "LSR 7 is set exactly if some unread character carries an error"
   pub any-error : (address : ℕ) → Names w history address register.Lsr
       → bitAt (readReply w history address) 7 ≡ someMark (unread (line w history))
   -- an arrival's reply is its fate by the judge
   pub fate : (byte mark : ℕ)
       → arrivalReply w history byte mark
-      ≡ fateNumber (gateOf (judgement w history .own) byte mark) (ltb (queued (line w history)) (roomOf (judgement w history .own)))
+      ≡ fateNumber (gateOf (judgement w history .own) byte mark) (keeps (line w history) (roomOf (judgement w history .own)))
 
 -- ---- "Nothing on the other channel alters this, save a device reset."
 -- whether an event names a channel: a reset and an IRQ look name none

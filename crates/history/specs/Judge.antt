@@ -42,10 +42,17 @@ queued l = length (l .kept) - l .read
 abbrev pub unread : Line → List Character
 unread l = drop (l .read) (l .kept)
 
--- a character that passes is kept if fewer than room are queued; a read finds one if some are queued
+-- "kept .. if fewer than room are queued"
+abbrev pub keeps : Line → ℕ → Bool
+keeps l room = ltb (queued l) room
+
+-- "a read finds a character exactly if that isn't 0"
+abbrev pub finds : Line → Bool
+finds l = not (eqb (queued l) 0)
+
 unfoldable pub lineAfter : Line → Act → ℕ → Line
-lineAfter l (act.Add c) room = pick (ltb (queued l) room) (record { kept = l .kept ++ (c ∷ []); read = l .read }) l
-lineAfter l act.Take room = pick (eqb (queued l) 0) l (record { kept = l .kept; read = l .read + 1 })
+lineAfter l (act.Add c) room = pick (keeps l room) (record { kept = l .kept ++ (c ∷ []); read = l .read }) l
+lineAfter l act.Take room = pick (finds l) (record { kept = l .kept; read = l .read + 1 }) l
 lineAfter l act.Clear room = freshLine
 lineAfter l act.Nothing room = l
 

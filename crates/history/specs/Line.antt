@@ -7,7 +7,7 @@ use mathlib.Core.List.{List, [], _∷_, _++_}
 use lib.ListN.{length, drop, length-drop, length-append, drop-of-length-le}
 use lib.Seq.{drop-append-le, drop-drop}
 use lib.Dec.{eqb, ltb}
-use borrow.Author.Tests.{eqb-true, eqb-false}
+use borrow.Author.Tests.{eqb-true, eqb-false, not-true, not-false}
 use Rattle.bits.specs.Choice.{pick, pick-by}
 use Rattle.queue.specs.declared.Character.{Character}
 use Rattle.queue.specs.declared.Queue.{Queue}
@@ -16,7 +16,7 @@ use Rattle.queue.specs.declared.Act.the-variants as act
 use Rattle.queue.specs.Queue.{WellFormed, actedOn}
 use Rattle.queue.specs.List.{items, listAfter}
 use Rattle.queue.specs.Laws.{length-items, items-acted}
-use Rattle.history.specs.Judge.{Line, freshLine, queued, unread, lineAfter}
+use Rattle.history.specs.Judge.{Line, queued, unread, keeps, finds, lineAfter}
 
 -- no more was read than was kept
 abbrev pub Within : Line → Type 0
@@ -24,8 +24,9 @@ Within l = l .read ≤ length (l .kept)
 
 pub within-after : (l : Line) (a : Act) (room : ℕ) → Within l → Within (lineAfter l a room)
 unfolding lineAfter
-within-after l (act.Add c) room h = pick-by Within (ltb (queued l) room) (λ _. simp length-append (omega arith)) (λ _. h)
-within-after l act.Take room h = pick-by Within (eqb (queued l) 0) (λ _. h) (λ some. omega (arith, eqb-false (queued l) 0 some))
+within-after l (act.Add c) room h = pick-by Within (keeps l room) (λ _. simp length-append (omega arith)) (λ _. h)
+within-after l act.Take room h =
+    pick-by Within (finds l) (λ some. omega (arith, eqb-false (queued l) 0 (not-true (eqb (queued l) 0) some))) (λ _. h)
 within-after l act.Clear room h = omega arith
 within-after l act.Nothing room h = h
 
@@ -41,9 +42,9 @@ unread-added l c room h = rw length-drop (go (ltb (queued l) room))
 unread-taken : (l : Line) (room : ℕ) → unread (lineAfter l act.Take room) ≡ listAfter (unread l) act.Take room
 unfolding lineAfter listAfter
 unread-taken l room =
-    pick-by (λ (m : Line). unread m ≡ drop 1 (unread l)) (eqb (queued l) 0)
-    (λ none. let all : length (l .kept) ≤ l .read = omega (arith, eqb-true (queued l) 0 none) in rw (drop-of-length-le (l .kept) all))
+    pick-by (λ (m : Line). unread m ≡ drop 1 (unread l)) (finds l)
     (λ _. sym (drop-drop 1 (l .read) (l .kept)))
+    (λ none. let all : length (l .kept) ≤ l .read = omega (arith, eqb-true (queued l) 0 (not-false (eqb (queued l) 0) none)) in rw (drop-of-length-le (l .kept) all))
 
 pub unread-after : (l : Line) (a : Act) (room : ℕ) → Within l → unread (lineAfter l a room) ≡ listAfter (unread l) a room
 unfolding lineAfter listAfter

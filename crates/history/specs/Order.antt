@@ -8,13 +8,13 @@ use mathlib.Core.List.{List, [], _∷_, _++_, map, map-append}
 use lib.ListN.{length, getD, take, drop}
 use lib.Seq.{take-suc, take-append-le, getD-drop}
 use lib.Dec.{eqb, ltb}
-use borrow.Author.Tests.{eqb-false}
+use borrow.Author.Tests.{eqb-false, not-true}
 use Rattle.bits.specs.Choice.{pick, pick-by}
 use Rattle.queue.specs.declared.Character.{Character}
 use Rattle.queue.specs.declared.Act.{Act}
 use Rattle.queue.specs.declared.Act.the-variants as act
 use Rattle.queue.specs.Queue.{none}
-use Rattle.history.specs.Judge.{Line, freshLine, queued, unread, lineAfter}
+use Rattle.history.specs.Judge.{Line, queued, keeps, finds, lineAfter}
 use Rattle.history.specs.Demand3.{foundAfter}
 use Rattle.history.specs.Line.{Within}
 
@@ -27,19 +27,19 @@ InOrder l found = found ≡ bytesOf (take (l .read) (l .kept))
 
 -- one act: a read that finds a character replies with the next unread
 pub in-order-after : (a : Act) (room : ℕ) (l : Line) (reply : ℕ) (found : List ℕ) → Within l
-    → (a ≡ act.Take → (queued l ≡ 0 → ⊥) → reply ≡ getD (l .kept) (l .read) none .byte)
+    → (a ≡ act.Take → reply ≡ getD (l .kept) (l .read) none .byte)
     → InOrder l found → InOrder (lineAfter l a room) (foundAfter a l reply found)
 unfolding lineAfter foundAfter
 in-order-after (act.Add c) room l reply found within next h =
-    pick-by (λ (m : Line). InOrder m found) (ltb (queued l) room) (λ _. rw (take-append-le (l .read) (l .kept) (c ∷ []) within) h) (λ _. h)
-in-order-after act.Take room l reply found within next h = go (eqb (queued l) 0) refl
+    pick-by (λ (m : Line). InOrder m found) (keeps l room) (λ _. rw (take-append-le (l .read) (l .kept) (c ∷ []) within) h) (λ _. h)
+in-order-after act.Take room l reply found within next h = go (finds l) refl
   where
-    go : (empty : Bool) → eqb (queued l) 0 ≡ empty
-        → InOrder (pick empty l (record { kept = l .kept; read = l .read + 1 })) (pick empty found (found ++ (reply ∷ [])))
-    go true e = h
-    go false e =
-        let some : (queued l ≡ 0 → ⊥) = eqb-false (queued l) 0 e in
+    go : (some : Bool) → finds l ≡ some
+        → InOrder (pick some (record { kept = l .kept; read = l .read + 1 }) l) (pick some (found ++ (reply ∷ [])) found)
+    go true e =
+        let some : (queued l ≡ 0 → ⊥) = eqb-false (queued l) 0 (not-true (eqb (queued l) 0) e) in
         let inside : l .read < length (l .kept) = omega (arith, some) in
-        rw (add-one, take-suc (l .kept) (l .read) none inside, map-append, h, next refl some)
+        rw (add-one, take-suc (l .kept) (l .read) none inside, map-append, h, next refl)
+    go false e = h
 in-order-after act.Clear room l reply found within next h = refl
 in-order-after act.Nothing room l reply found within next h = h

@@ -130,7 +130,7 @@ module _ (w : Side) (d : Device) (l : Ledger) (ok : device.WellFormed d) (h : Ag
   in-order-step : (m : Made) (found : List ℕ) → InOrder (l .line) found → InOrder (judgedBy w l m .line) (foundAfter (actBy w l m) (l .line) (replyTo d m) found)
   unfolding judgedBy ledgerAfter foundAfter
   in-order-step (made.Event e) found o =
-      in-order-after (actBy w l (made.Event e)) (roomOf (l .own)) (l .line) (replyTo d (made.Event e)) found (h .holds .within) (λ a _. reply-taken (made.Event e) a) o
+      in-order-after (actBy w l (made.Event e)) (roomOf (l .own)) (l .line) (replyTo d (made.Event e)) found (h .holds .within) (reply-taken (made.Event e)) o
   in-order-step (made.Refused r) found o = o
 
 in-order-run : (w : Side) (history : List Made) (d : Device) (l : Ledger) (found : List ℕ) → AllIn history → device.WellFormed d → Agrees w d l → InOrder (l .line) found
