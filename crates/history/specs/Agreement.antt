@@ -1,8 +1,7 @@
 -- After every history a device agrees with the judge: the stored registers of both channels are those that the ledger
 -- has, and the judged channel's receive queue holds what its line has unread.
-use Prim.Native.Nat.{ℕ, _≤_}
 use native.Mathlib.Omega.{arith}
-use mathlib.Core.Path.{_≡_, refl, sym, ap, _∙_}
+use mathlib.Core.Path.{_≡_, refl}
 use mathlib.Core.Bool.{Bool, true, false}
 use mathlib.Core.List.{List, [], _∷_}
 use Rattle.bits.specs.Choice.{pick}
@@ -26,8 +25,8 @@ use Rattle.device.specs.declared.device.Device.{Device}
 use Rattle.device.specs.Effects.{sideOf, effectOf}
 use Rattle.device.specs.Device as device
 use Rattle.device.specs.Device.{channelAt, withChannel, settingsAt, touchedAt, resetDevice, newDevice, effected, stepOf, answeredOf}
-use Rattle.device.specs.Laws.{MadeIn, otherSide, well-formed-new, well-formed-at, well-formed-answered}
-use Rattle.history.specs.Judge.{Line, freshLine, lineAfter, Ledger, settingsOf, freshLedger, ledgerAfter, isSide, judgedBy, judgedFrom, judgement}
+use Rattle.device.specs.Laws.{otherSide, well-formed-new, well-formed-at, well-formed-answered}
+use Rattle.history.specs.Judge.{Line, lineAfter, Ledger, settingsOf, freshLedger, ledgerAfter, isSide, judgedBy, judgedFrom, judgement}
 use Rattle.history.specs.Demand3.{ranFrom, ran, AllIn}
 use Rattle.history.specs.Line.{Holds, holds-acted}
 

@@ -14,7 +14,6 @@ use Rattle.registers.specs.declared.touch.Touch.{Touch}
 use Rattle.channel.specs.declared.channel.Channel.{Channel}
 use Rattle.channel.specs.Channel.{touchedOf, resetOf}
 use Rattle.device.specs.declared.side.Side.{Side}
-use Rattle.device.specs.declared.side.Side.the-variants as side
 use Rattle.device.specs.declared.effect.Effect.{Effect}
 use Rattle.device.specs.declared.effect.Effect.the-variants as effect
 use Rattle.device.specs.declared.device.Device.{Device}
@@ -24,9 +23,9 @@ use Rattle.device.specs.Effects.{sideOf, effectOf}
 use Rattle.device.specs.Device as device
 use Rattle.device.specs.Device.{channelAt, settingsAt, touchedAt, rtsAt, lookReply, newDevice, effected, stepOf, answeredOf}
 use Rattle.device.specs.Laws.{otherSide, well-formed-new, well-formed-answered}
-use Rattle.history.specs.Judge.{Ledger, settingsOf, freshLedger, lineAfter, settingsBy, lineAct, ledgerAfter, isSide, judgedBy, judgedFrom}
+use Rattle.history.specs.Judge.{Ledger, settingsOf, freshLedger, lineAfter, ledgerAfter, isSide, judgedBy, judgedFrom}
 use Rattle.history.specs.Demand3.{ranFrom, ran, AllIn, line, namesChannel, ofOwn, ofOther, withoutOther, effectBy, NoResetThereFrom, NoResetThere, answersFrom, answers, Alone}
-use Rattle.history.specs.Agreement.{Agrees, side-of, own-side, same-settings, agrees-answered, agrees-new, other-side, seen-own, seen-from-other, reset-seen}
+use Rattle.history.specs.Agreement.{Agrees, own-side, same-settings, agrees-answered, agrees-new, other-side, seen-own, seen-from-other, reset-seen}
 
 -- ---- tests
 not-own : (names own : Bool) → names && not own ≡ true → own ≡ false

@@ -4,10 +4,8 @@ use mathlib.Core.Path.{_≡_}
 use mathlib.Core.Bool.{Bool, true, false, not, _&&_}
 use mathlib.Core.List.{List, [], _∷_, _++_, map}
 use lib.ListN.{length, getD, take}
-use lib.Dec.{eqb, ltb}
 use Rattle.bits.specs.Choice.{pick}
 use Rattle.bits.specs.Bits.{bitAt, partAt}
-use Rattle.queue.specs.declared.Character.{Character}
 use Rattle.queue.specs.declared.Act.{Act}
 use Rattle.queue.specs.declared.Act.the-variants as act
 use Rattle.queue.specs.Queue.{none}

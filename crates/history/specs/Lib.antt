@@ -7,4 +7,5 @@ pub mod Reads
 pub mod Order
 pub mod Alone
 pub mod Proved
+pub mod Numbers
 pub mod Table

@@ -1,14 +1,14 @@
 -- Demand 3 holds of every history.
-use Prim.Native.Nat.{ℕ, _+_, _-_, _<_, _≤_}
+use Prim.Native.Nat.{ℕ, _-_}
 use native.Mathlib.Nat.{add-zero}
 use native.Mathlib.Omega.{arith}
-use mathlib.Core.Path.{_≡_, refl, sym, ap, _∙_}
-use mathlib.Core.Bool.{Bool, true, false, not, _&&_}
+use mathlib.Core.Path.{_≡_, refl, ap, _∙_}
+use mathlib.Core.Bool.{Bool, true, false, not}
 use mathlib.Core.List.{List, [], _∷_}
-use lib.ListN.{length, getD, take, drop, length-drop, List·getD-eq-default}
+use lib.ListN.{length, getD, length-drop, List·getD-eq-default}
 use lib.Seq.{getD-drop}
 use lib.Dec.{eqb, ltb}
-use Rattle.bits.specs.Choice.{pick, pick-by}
+use Rattle.bits.specs.Choice.{pick-by}
 use Rattle.bits.specs.Bits.{bitAt, partAt}
 use Rattle.queue.specs.declared.Character.{Character}
 use Rattle.queue.specs.declared.Act.{Act}
@@ -30,20 +30,18 @@ use Rattle.registers.specs.Windows.{same, registerAt}
 use Rattle.registers.specs.Arrivals.{arrivedByte, gateOf, roomOf}
 use Rattle.registers.specs.Touches.{clears, clearing, offered, receivedBy, receiveAct}
 use Rattle.lines.specs.Receive.{fateNumber}
-use Rattle.channel.specs.declared.channel.Channel.{Channel}
 use Rattle.channel.specs.Channel.{shownBy, readOf, replyOf, touchedOf}
 use Rattle.device.specs.declared.side.Side.{Side}
-use Rattle.device.specs.declared.side.Side.the-variants as side
 use Rattle.device.specs.declared.effect.Effect.{Effect}
 use Rattle.device.specs.declared.effect.Effect.the-variants as effect
 use Rattle.device.specs.declared.device.Device.{Device}
 use Rattle.device.specs.Effects.{sideOf, effectOf}
 use Rattle.device.specs.Device as device
-use Rattle.device.specs.Device.{channelAt, settingsAt, touchedAt, newDevice, effected, stepOf, answeredOf}
+use Rattle.device.specs.Device.{channelAt, touchedAt, newDevice, effected, stepOf, answeredOf}
 use Rattle.device.specs.Laws.{well-formed-new, well-formed-at, well-formed-answered}
-use Rattle.history.specs.Judge.{Line, freshLine, queued, unread, Ledger, settingsOf, freshLedger, lineAct, ledgerAfter, isSide, judgedBy, judgedFrom, judgement}
-use Rattle.history.specs.Demand3.{ranFrom, ran, AllIn, replyTo, number, line, actBy, foundAfter, foundFrom, found, Demand3}
-use Rattle.history.specs.Line.{Holds, holds-count}
+use Rattle.history.specs.Judge.{queued, unread, Ledger, settingsOf, freshLedger, lineAct, ledgerAfter, isSide, judgedBy, judgedFrom, judgement}
+use Rattle.history.specs.Demand3.{ran, AllIn, replyTo, number, line, actBy, foundAfter, foundFrom, found, Demand3}
+use Rattle.history.specs.Line.{holds-count}
 use Rattle.history.specs.Agreement.{Agrees, own-side, same-settings, agrees-answered, agrees-new, agreement, well-formed-ran}
 use Rattle.history.specs.Reads.{read-reply, arrival-reply, fate-kept, rhr-read, rxlvl-read, lsr-marks-read, lsr-ready-read, lsr-error-read}
 use Rattle.history.specs.Order.{InOrder, in-order-after}

@@ -1,7 +1,7 @@
 -- P1 to P12 of "Cases on each side", as one table: what the definitions give, beside what document 01 says.
 use Prim.Native.Nat.{ℕ}
 use mathlib.Core.Path.{_≡_, refl}
-use mathlib.Core.List.{List, [], _∷_, _++_, map}
+use mathlib.Core.List.{List, [], _∷_, map}
 use lib.ListN.{replicate}
 use Rattle.bits.specs.Bits.{oneIf, bitAt, partAt, replacedAt, cutTo}
 use Rattle.queue.specs.Queue.{emptyQueue, behind, addedTo, clearedFrom, oldestOf, markedFrom, anyMarkOf, actedOn}
