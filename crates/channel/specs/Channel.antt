@@ -14,7 +14,6 @@ use Rattle.registers.specs.Windows.{same}
 use Rattle.registers.specs.Writes.{resetFrom, blankSettings}
 use Rattle.registers.specs.Arrivals.{gateOf, roomOf}
 use Rattle.registers.specs.Touches.{settingsAfter, receiveAct, transmitAct}
-use Rattle.lines.specs.declared.receive.Line.{Line}
 use Rattle.lines.specs.declared.receive.Status.{Status}
 use Rattle.lines.specs.declared.transmit.Shift.{Shift}
 use Rattle.lines.specs.declared.flags.Moment.{Moment}

@@ -18,7 +18,6 @@ use Rattle.device.specs.declared.effect.Effect.{Effect}
 use Rattle.device.specs.declared.effect.Effect.the-variants as effect
 use Rattle.device.specs.declared.device.Device.{Device}
 use Rattle.device.specs.declared.device.Stepped.{Stepped}
-use Rattle.device.specs.declared.device.Answer.{Answer}
 use Rattle.device.specs.declared.device.Answer.the-variants as answer
 use Rattle.device.specs.declared.device.Outcome.{Outcome}
 use Rattle.device.specs.Effects.{sideOf, effectOf}

@@ -1,25 +1,22 @@
 -- What holds of every step: the record stays well formed, the other channel is left alone, and a refused event changes nothing.
-use Prim.Native.Nat.{ℕ, _<_}
-use native.Mathlib.Omega.{arith}
-use mathlib.Core.Path.{_≡_, refl, sym, ap, _∙_}
-use mathlib.Core.Bool.{Bool, true, false}
+use Prim.Native.Nat.{ℕ}
+use mathlib.Core.Path.{_≡_, refl}
 use Rattle.bits.specs.Choice.{pick-by}
 use Rattle.event.specs.declared.refusal.Refusal.{Refusal}
 use Rattle.event.specs.declared.events.Event.{Event}
 use Rattle.event.specs.declared.events.Event.the-variants as event
 use Rattle.event.specs.declared.events.Made.{Made}
 use Rattle.event.specs.declared.events.Made.the-variants as made
-use Rattle.event.specs.Events.{InRange, Numbers, numbersOf, eventOf, judgedOf}
+use Rattle.event.specs.Events.{InRange, numbersOf, eventOf, judgedOf}
 use Rattle.event.specs.Laws.{made-in-range}
 use Rattle.registers.specs.declared.register.Register.the-variants as register
 use Rattle.registers.specs.declared.settings.Settings.{Settings}
 use Rattle.registers.specs.declared.touch.Touch.{Touch}
-use Rattle.registers.specs.declared.touch.Touch.the-variants as touch
 use Rattle.registers.specs.Windows.{same, registerAt}
 use Rattle.registers.specs.Laws.{TouchIn}
 use Rattle.channel.specs.declared.channel.Channel.{Channel}
 use Rattle.channel.specs.Channel as channel
-use Rattle.channel.specs.Channel.{touchedOf, resetOf, blankChannel}
+use Rattle.channel.specs.Channel.{touchedOf, blankChannel}
 use Rattle.channel.specs.Laws.{well-formed-touched, well-formed-reset, well-formed-blank}
 use Rattle.device.specs.declared.side.Side.{Side}
 use Rattle.device.specs.declared.side.Side.the-variants as side
@@ -27,7 +24,6 @@ use Rattle.device.specs.declared.effect.Effect.{Effect}
 use Rattle.device.specs.declared.effect.Effect.the-variants as effect
 use Rattle.device.specs.declared.device.Device.{Device}
 use Rattle.device.specs.declared.device.Answer.the-variants as answer
-use Rattle.device.specs.declared.device.Outcome.{Outcome}
 use Rattle.device.specs.Effects.{sideOf, resetsDevice, writeEffect, readEffect, effectOf}
 use Rattle.device.specs.Device.{WellFormed, channelAt, withChannel, settingsAt, touchedAt, resetDevice, newDevice, effected, stepOf, answeredOf}
 

@@ -8,4 +8,5 @@ pub mod Order
 pub mod Alone
 pub mod Proved
 pub mod Numbers
+pub mod Files
 pub mod Table

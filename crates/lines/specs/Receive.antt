@@ -1,6 +1,6 @@
 -- "Receive queue": what an event makes of the overrun and the quiet count, the fates, and LSR.
 use Prim.Native.Nat.{ℕ, _+_, _*_}
-use mathlib.Core.Bool.{Bool, true, false, not, _&&_, _||_}
+use mathlib.Core.Bool.{Bool, false, not, _&&_, _||_}
 use lib.Dec.{ltb}
 use Rattle.bits.specs.Choice.{pick}
 use Rattle.bits.specs.Bits.{oneIf}

@@ -1,18 +1,18 @@
 -- Code that goes one way whatever a condition says, against the definitions that choose by it.
-use Prim.Native.Nat.{ℕ, _+_, _-_, _%_, _<_, _≤_}
+use Prim.Native.Nat.{ℕ, _+_, _-_, _%_, _≤_}
 use native.Mathlib.Omega.{arith}
-use mathlib.Core.Path.{_≡_, refl, sym}
+use mathlib.Core.Path.{_≡_, refl}
 use mathlib.Core.Bool.{Bool, true, false, not}
 use lib.ListN.{getD, set}
 use lib.Seq.{set-getD}
-use lib.Dec.{eqb, ltb}
-use borrow.Author.Tests.{eqb-true, eqb-false}
+use lib.Dec.{eqb}
+use borrow.Author.Tests.{eqb-false}
 use Rattle.bits.specs.Choice.{pick}
 use Rattle.bits.specs.Bits.{oneIf}
 use Rattle.queue.specs.declared.Character.{Character}
 use Rattle.queue.specs.declared.Queue.{Queue}
 use Rattle.queue.specs.declared.Added.{Added}
-use Rattle.queue.specs.Queue.{WellFormed, none, behind, addedTo, rest, takenFrom, oldestOf}
+use Rattle.queue.specs.Queue.{WellFormed, none, behind, rest, takenFrom, oldestOf}
 
 module _ (q : Queue) where
   pub kept-or-not : (c : Character) (kept : Bool)

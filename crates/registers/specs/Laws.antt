@@ -3,7 +3,6 @@ use Prim.Native.Nat.{ℕ, _<_, _≤_}
 use native.Mathlib.Omega.{arith}
 use Rattle.bits.specs.Choice.{pick-by}
 use Rattle.bits.specs.Bits.{bitAt}
-use Rattle.queue.specs.declared.Act.{Act}
 use Rattle.queue.specs.Laws.{MarkBelow}
 use Rattle.registers.specs.declared.register.Register.the-variants as register
 use Rattle.registers.specs.declared.arrival.Gate.{Gate}

@@ -1,7 +1,6 @@
 -- "Trigger levels". "Receive levels count characters and transmit levels count spaces".
 use Prim.Native.Nat.{ℕ, _*_}
-use mathlib.Core.Bool.{not}
-use mathlib.Core.List.{List, [], _∷_}
+use mathlib.Core.List.{[], _∷_}
 use lib.ListN.{getD}
 use lib.Dec.{eqb}
 use Rattle.bits.specs.Choice.{pick}

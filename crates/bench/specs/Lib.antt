@@ -1,0 +1,2 @@
+-- What the contracts of `bench` cite.
+pub mod Program

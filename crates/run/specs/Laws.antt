@@ -1,0 +1,249 @@
+-- What follows from the definitions: a number in decimal, how long a line can be, and a run taken step by step.
+use Prim.Native.Nat.{ℕ, zero, suc, _+_, _-_, _*_, _/_, _%_, _<_, _≤_}
+use native.Mathlib.Nat.{zero-add, suc-add}
+use native.Mathlib.Omega.{arith}
+use mathlib.Core.Path.{_≡_, refl, ap, _∙_}
+use mathlib.Core.Bool.{Bool, true, false}
+use mathlib.Core.List.{List, [], _∷_, _++_, append-nil, append-assoc}
+use lib.ListN.{length, length-append}
+use lib.Dec.{ltb}
+use borrow.Author.Tests.{lt-ltb, le-ltb, le-leb, ltb-true, ltb-false}
+use Rattle.bits.specs.Choice.{pick, pick-by}
+use Rattle.event.specs.declared.refusal.Refusal.{Refusal}
+use Rattle.event.specs.declared.refusal.Refusal.the-variants as refusal
+use Rattle.event.specs.declared.events.Event.{Event}
+use Rattle.event.specs.declared.events.Made.the-variants as made
+use Rattle.event.specs.declared.reading.Reading.{Reading}
+use Rattle.event.specs.declared.reading.Reading.the-variants as reading
+use Rattle.event.specs.Refusals.{refusalNumber}
+use Rattle.event.specs.Events.{judgedOf}
+use Rattle.event.specs.Reading.{readAt}
+use Rattle.event.specs.Laws.{in-range-judged, ReadingFrom, reading-from}
+use Rattle.event.specs.Theorems.{read-in-range}
+use Rattle.device.specs.Laws.{well-formed-new, well-formed-answered}
+use Rattle.run.specs.declared.cursor.Cursor.{Cursor}
+use Rattle.run.specs.declared.cursor.Said.the-variants as said
+use Rattle.run.specs.declared.cursor.Advanced.{Advanced}
+use Rattle.run.specs.Text.{lastDigits, decimal, lineWith, okay, refused}
+use Rattle.run.specs.Cursor.{WellFormed, newCursor, advancedBy, advancedOf, textSaid, textIn, cursorAfter}
+
+-- a number is below another, or it is not
+pub below-or-not : {P : Type 0} (n m : ℕ) → (n < m → P) → (m ≤ n → P) → P
+below-or-not {P} n m below not-below = go (ltb n m) refl
+  where
+    go : (b : Bool) → ltb n m ≡ b → P
+    go true h = below (ltb-true n m h)
+    go false h = not-below (ltb-false n m h)
+
+-- ---- a number in decimal
+-- two counts of digits above the number give the same digits
+enough : (j k n : ℕ) → n < j → n < k → lastDigits j n ≡ lastDigits k n
+unfolding lastDigits
+enough zero k n a b = absurd (omega arith)
+enough (suc j) zero n a b = absurd (omega arith)
+enough (suc j) (suc k) n a b =
+    pick-by (λ (l : List ℕ). l ≡ pick (ltb n 10) ((48 + n) ∷ []) (lastDigits k (n / 10) ++ ((48 + n % 10) ∷ []))) (ltb n 10)
+    (λ h. rw h)
+    (λ h.
+    let large : 10 ≤ n = ltb-false n 10 h in
+    rw (h, enough j k (n / 10) (omega arith) (omega arith)))
+
+pub decimal-small : (n : ℕ) → n < 10 → decimal n ≡ (48 + n) ∷ []
+unfolding decimal lastDigits
+decimal-small n small = rw (lt-ltb n 10 small)
+
+pub decimal-large : (n : ℕ) → 10 ≤ n → decimal n ≡ decimal (n / 10) ++ ((48 + n % 10) ∷ [])
+unfolding decimal lastDigits
+decimal-large n large = rw (le-ltb n 10 large, enough n (suc (n / 10)) (n / 10) (omega arith) (omega arith))
+
+pub digits-more : (n : ℕ) → 10 ≤ n → length (decimal n) ≡ length (decimal (n / 10)) + 1
+digits-more n large = rw (decimal-large n large) (length-append (decimal (n / 10)) ((48 + n % 10) ∷ []))
+
+-- a digit fewer for a tenth of the bound
+digits-within : (bound k n : ℕ) → 0 < k → ((m : ℕ) → m < bound → length (decimal m) ≤ k) → n < 10 * bound → length (decimal n) ≤ k + 1
+digits-within bound k n some fewer small =
+    below-or-not n 10 (λ one. rw (decimal-small n one) (omega arith)) (λ large. omega (arith, digits-more n large, fewer (n / 10) (omega arith)))
+
+one-digit : (n : ℕ) → n < 10 → length (decimal n) ≤ 1
+one-digit n small = rw (decimal-small n small) (omega arith)
+
+pub five-digits : (n : ℕ) → n < 100000 → length (decimal n) ≤ 5
+five-digits n small =
+    digits-within 10000 4 n (omega arith)
+    (λ m m-small.
+    digits-within 1000 3 m (omega arith)
+    (λ l l-small.
+    digits-within 100 2 l (omega arith) (λ k k-small. digits-within 10 1 k (omega arith) one-digit k-small) l-small)
+    m-small)
+    small
+
+-- ---- a line takes sixteen bytes at most
+pub line-length : (index : ℕ) (word : List ℕ) (number : ℕ)
+    → length (lineWith index word number) ≡ length (decimal index) + length word + length (decimal number) + 1
+unfolding lineWith
+line-length index word number = simp length-append
+
+pub okay-length : (index reply : ℕ) → index ≤ 65536 → reply < 65536 → length (lineWith index okay reply) ≤ 16
+okay-length index reply i r = rw line-length (omega (arith, five-digits index (omega arith), five-digits reply (omega arith)))
+
+refusal-digit : (r : Refusal) → refusalNumber r < 10
+refusal-digit refusal.Number = omega arith
+refusal-digit refusal.Short = omega arith
+refusal-digit refusal.Kind = omega arith
+refusal-digit refusal.Channel = omega arith
+refusal-digit refusal.Address = omega arith
+refusal-digit refusal.Byte = omega arith
+refusal-digit refusal.Mark = omega arith
+refusal-digit refusal.Pins = omega arith
+refusal-digit refusal.Long = omega arith
+
+pub refused-length : (index : ℕ) (r : Refusal) → index ≤ 65536 → length (lineWith index refused (refusalNumber r)) ≤ 16
+refused-length index r i =
+    rw line-length (omega (arith, five-digits index (omega arith), one-digit (refusalNumber r) (refusal-digit r)))
+
+-- ---- an event that was read is the one that is judged
+pub read-judged : (s : List ℕ) (at : ℕ) {e : Event} {next : ℕ} → readAt s at ≡ reading.Event e next → judgedOf e ≡ made.Event e
+read-judged s at {e} read = in-range-judged e (read-in-range s at read)
+
+-- ---- every step keeps the cursor well formed
+pub well-formed-new-cursor : WellFormed newCursor
+unfolding newCursor
+well-formed-new-cursor = record { device-in = well-formed-new; index-in = omega arith; place-in = omega arith }
+
+-- an input above 65,536 bytes is refused at any place, so that an event is read from a short one only
+pub long-refused : (s : List ℕ) (at : ℕ) → 65536 < length s → readAt s at ≡ reading.Ended refusal.Long
+unfolding readAt
+long-refused s at long = rw (lt-ltb 65536 (length s) long)
+
+pub past-the-end : (s : List ℕ) (at : ℕ) → length s ≤ 65536 → length s ≤ at → readAt s at ≡ reading.End
+unfolding readAt
+past-the-end s at short past = rw (le-ltb 65536 (length s) short, le-leb (length s) at past)
+
+module _ (s : List ℕ) (c : Cursor) (ok : WellFormed c) where
+  well-formed-by : length s ≤ 65536 → (r : Reading) → ReadingFrom s (c .place) r → WellFormed (advancedBy c r .cursor)
+  well-formed-by short (reading.Event e next) from =
+      record {
+        device-in = well-formed-answered (c .device) (made.Event e) (from .2) (ok .device-in);
+        index-in = omega (arith, ok .index-in, from .0);
+        place-in = omega (arith, from .1);
+      }
+  well-formed-by short (reading.Refused r next) from =
+      record {
+        device-in = well-formed-answered (c .device) (made.Refused r) tt (ok .device-in);
+        index-in = omega (arith, ok .index-in, from .0);
+        place-in = omega (arith, from .1);
+      }
+  well-formed-by short (reading.Ended r) from = record { device-in = ok .device-in; index-in = ok .index-in; place-in = ok .place-in }
+  well-formed-by short reading.End from = record { device-in = ok .device-in; index-in = ok .index-in; place-in = ok .place-in }
+
+  pub well-formed-advanced : WellFormed (advancedOf s c .cursor)
+  unfolding advancedOf
+  well-formed-advanced =
+      pick-by (λ (a : Advanced). WellFormed (a .cursor)) (c .over) (λ _. ok)
+      (λ _.
+      below-or-not 65536 (length s)
+      (λ long. rw (long-refused s (c .place) long) (record { device-in = ok .device-in; index-in = ok .index-in; place-in = ok .place-in }))
+      (λ short. well-formed-by short (readAt s (c .place)) (reading-from s (c .place))))
+
+pub well-formed-after : (n : ℕ) (s : List ℕ) (c : Cursor) → WellFormed c → WellFormed (cursorAfter n s c)
+unfolding cursorAfter
+well-formed-after zero s c ok = ok
+well-formed-after (suc n) s c ok = well-formed-after n s (advancedOf s c .cursor) (well-formed-advanced s c ok)
+
+-- ---- a run that is over says nothing more and stays as it is
+module _ (s : List ℕ) where
+  over-advanced : (c : Cursor) → c .over ≡ true → advancedOf s c ≡ record { cursor = c; said = said.Nothing }
+  unfolding advancedOf
+  over-advanced c over =
+      ap (λ (b : Bool). pick b (record { cursor = c; said = said.Nothing }) (advancedBy c (readAt s (c .place)))) over
+
+  pub going-advanced : (c : Cursor) → c .over ≡ false → advancedOf s c ≡ advancedBy c (readAt s (c .place))
+  unfolding advancedOf
+  going-advanced c going =
+      ap (λ (b : Bool). pick b (record { cursor = c; said = said.Nothing }) (advancedBy c (readAt s (c .place)))) going
+
+  pub over-still : (n : ℕ) (c : Cursor) → c .over ≡ true → cursorAfter n s c ≡ c
+  unfolding cursorAfter
+  over-still zero c over = refl
+  over-still (suc n) c over = rw (over-advanced c over) (over-still n c over)
+
+  pub over-silent : (n : ℕ) (c : Cursor) → c .over ≡ true → textIn n s c ≡ []
+  unfolding textIn textSaid
+  over-silent zero c over = refl
+  over-silent (suc n) c over = rw (over-advanced c over) (over-silent n c over)
+
+  -- ---- some steps and then some more are as many together
+  pub cursor-sum : (m n : ℕ) (c : Cursor) → cursorAfter (m + n) s c ≡ cursorAfter n s (cursorAfter m s c)
+  unfolding cursorAfter
+  cursor-sum zero n c = rw zero-add
+  cursor-sum (suc m) n c = rw suc-add (cursor-sum m n (advancedOf s c .cursor))
+
+  pub text-sum : (m n : ℕ) (c : Cursor) → textIn (m + n) s c ≡ textIn m s c ++ textIn n s (cursorAfter m s c)
+  unfolding textIn cursorAfter
+  text-sum zero n c = rw zero-add
+  text-sum (suc m) n c = rw (suc-add, text-sum m n (advancedOf s c .cursor), append-assoc)
+
+  pub cursor-more : (n : ℕ) (c : Cursor) → cursorAfter (n + 1) s c ≡ advancedOf s (cursorAfter n s c) .cursor
+  unfolding cursorAfter
+  cursor-more n c = cursor-sum n 1 c
+
+  pub text-more : (n : ℕ) (c : Cursor)
+      → textIn (n + 1) s c ≡ textIn n s c ++ textSaid (cursorAfter n s c .index) (advancedOf s (cursorAfter n s c) .said)
+  unfolding textIn
+  text-more n c = text-sum n 1 c ∙ rw append-nil
+
+-- ---- what is left of a run, counted in steps: none once it is over, else a step for each byte and one for the end
+abbrev pub left : List ℕ → Cursor → ℕ
+left s c = pick (c .over) 0 (suc (length s - c .place))
+
+module _ (s : List ℕ) where
+  nearer-by : (c : Cursor) (r : Reading) → ReadingFrom s (c .place) r → left s (advancedBy c r .cursor) < suc (length s - c .place)
+  nearer-by c (reading.Event e next) from = omega (arith, from .0, from .1)
+  nearer-by c (reading.Refused r next) from = omega (arith, from .0, from .1)
+  nearer-by c (reading.Ended r) from = omega arith
+  nearer-by c reading.End from = omega arith
+
+  -- every step of a run that is not over brings it nearer to its end
+  pub nearer : (c : Cursor) → c .over ≡ false → left s (advancedOf s c .cursor) < left s c
+  nearer c going =
+      rw (going-advanced s c going)
+      (omega (arith, nearer-by c (readAt s (c .place)) (reading-from s (c .place)), ap (λ (b : Bool). pick b 0 (suc (length s - c .place))) going))
+
+  -- and no step takes it further away
+  pub no-further : (c : Cursor) → left s (advancedOf s c .cursor) ≤ left s c
+  no-further c = go (c .over) refl
+    where
+      go : (b : Bool) → c .over ≡ b → left s (advancedOf s c .cursor) ≤ left s c
+      go true over = rw (over-advanced s c over) (omega arith)
+      go false going = omega (arith, nearer c going)
+
+  pub no-further-after : (n : ℕ) (c : Cursor) → left s (cursorAfter n s c) ≤ left s c
+  unfolding cursorAfter
+  no-further-after zero c = omega arith
+  no-further-after (suc n) c = omega (arith, no-further-after n (advancedOf s c .cursor), no-further c)
+
+  pub nearer-after : (n : ℕ) (c : Cursor) → 0 < n → c .over ≡ false → left s (cursorAfter n s c) < left s c
+  unfolding cursorAfter
+  nearer-after zero c some going = absurd (omega arith)
+  nearer-after (suc n) c some going = omega (arith, no-further-after n (advancedOf s c .cursor), nearer c going)
+
+  over-by : (c : Cursor) → left s c ≡ 0 → c .over ≡ true
+  over-by c none = go (c .over) refl
+    where
+      go : (b : Bool) → c .over ≡ b → b ≡ true
+      go true over = refl
+      go false going = absurd (omega (arith, none, ap (λ (b : Bool). pick b 0 (suc (length s - c .place))) going))
+
+  over-after-over : (n : ℕ) (c : Cursor) → c .over ≡ true → cursorAfter n s c .over ≡ true
+  over-after-over n c over = rw (over-still s n c over) over
+
+  -- as many steps as are left end the run
+  pub over-after : (n : ℕ) (c : Cursor) → left s c ≤ n → cursorAfter n s c .over ≡ true
+  unfolding cursorAfter
+  over-after zero c few = over-by c (omega arith)
+  over-after (suc n) c few = go (c .over) refl (over-after n (advancedOf s c .cursor))
+    where
+      go : (b : Bool) → c .over ≡ b → (left s (advancedOf s c .cursor) ≤ n → cursorAfter n s (advancedOf s c .cursor) .over ≡ true)
+          → cursorAfter n s (advancedOf s c .cursor) .over ≡ true
+      go true over then = rw (over-advanced s c over) (over-after-over n c over)
+      go false going then = then (omega (arith, nearer c going))

@@ -1,0 +1,240 @@
+-- A run ends, its answers are counted from 0, an input too long is only refused, and buffers filled one after the other hold its text.
+use Prim.Native.Nat.{ℕ, zero, suc, _+_, _-_, _*_, _/_, _%_, _<_, _≤_}
+use native.Mathlib.Omega.{arith}
+use mathlib.Core.Path.{_≡_, refl, sym, ap, _∙_}
+use mathlib.Core.Bool.{true, false}
+use mathlib.Core.List.{List, [], _∷_, _++_, append-nil}
+use lib.ListN.{length, take, getD, length-append, List·getD-append}
+use lib.Seq.{take-append-seam}
+use Rattle.event.specs.declared.refusal.Refusal.the-variants as refusal
+use Rattle.event.specs.declared.events.Made.the-variants as made
+use Rattle.event.specs.declared.reading.Reading.{Reading}
+use Rattle.event.specs.declared.reading.Reading.the-variants as reading
+use Rattle.event.specs.Reading.{readAt}
+use Rattle.event.specs.Laws.{ReadingFrom, reading-from}
+use Rattle.device.specs.declared.device.Device.{Device}
+use Rattle.device.specs.declared.device.Answer.the-variants as answer
+use Rattle.device.specs.Device.{newDevice, answeredOf}
+use Rattle.run.specs.declared.cursor.Cursor.{Cursor}
+use Rattle.run.specs.declared.cursor.Filled.{Filled}
+use Rattle.run.specs.Text.{lastDigits, decimal, lineWith, lineOf}
+use Rattle.run.specs.Run.{Indexed, answersBy, answersFrom, answersIn, answersOf, linesOf, textOf}
+use Rattle.run.specs.Cursor.{newCursor, endedAt, advancedBy, textSaid, textIn, cursorAfter, filledBy}
+use Rattle.run.specs.Laws.{below-or-not, decimal-small, decimal-large, long-refused, past-the-end, going-advanced, over-silent, cursor-sum, text-sum, left, over-after}
+
+-- ---- a number in decimal: digits that say the number, without leading zeros
+module _ (P : ℕ → List ℕ → Type 0) (one : (n : ℕ) → n < 10 → P n ((48 + n) ∷ []))
+    (more : (n : ℕ) (l : List ℕ) → 10 ≤ n → P (n / 10) l → P n (l ++ ((48 + n % 10) ∷ []))) where
+  by-digits : (k n : ℕ) → n < k → P n (decimal n)
+  by-digits zero n fits = absurd (omega arith)
+  by-digits (suc k) n fits =
+      below-or-not n 10 (λ small. rw (decimal-small n small) (one n small))
+      (λ large. rw (decimal-large n large) (more n (decimal (n / 10)) large (by-digits k (n / 10) (omega arith))))
+
+-- the number that a list of digits says, after one that stands before them
+abbrev pub valueAfter : ℕ → List ℕ → ℕ
+valueAfter before [] = before
+valueAfter before (digit ∷ rest) = valueAfter (10 * before + (digit - 48)) rest
+
+value-more : (before : ℕ) (l : List ℕ) (digit : ℕ) → valueAfter before (l ++ (digit ∷ [])) ≡ 10 * valueAfter before l + (digit - 48)
+value-more before [] digit = refl
+value-more before (d ∷ l) digit = value-more (10 * before + (d - 48)) l digit
+
+pub decimal-says : (n : ℕ) → valueAfter 0 (decimal n) ≡ n
+decimal-says n =
+    by-digits (λ (n : ℕ) (l : List ℕ). valueAfter 0 l ≡ n) (λ n small. omega arith)
+    (λ n l large says. omega (arith, says, value-more 0 l (48 + n % 10))) (suc n) n (omega arith)
+
+abbrev pub AllDigits : List ℕ → Type 0
+AllDigits [] = Unit {0}
+AllDigits (b ∷ rest) = (48 ≤ b) × (b ≤ 57) × AllDigits rest
+
+digits-more : (l : List ℕ) (digit : ℕ) → AllDigits l → 48 ≤ digit → digit ≤ 57 → AllDigits (l ++ (digit ∷ []))
+digits-more [] digit all low high = (low, high, tt)
+digits-more (b ∷ l) digit all low high = (all .0, all .1, digits-more l digit (all .2) low high)
+
+pub decimal-digits : (n : ℕ) → AllDigits (decimal n)
+decimal-digits n =
+    by-digits (λ (n : ℕ) (l : List ℕ). AllDigits l) (λ n small. omega arith)
+    (λ n l large all. digits-more l (48 + n % 10) all (omega arith) (omega arith)) (suc n) n (omega arith)
+
+-- the first digit is 0 only of the number 0
+pub no-leading-zero : (n : ℕ) → getD (decimal n) 0 0 ≡ 48 → n ≡ 0
+no-leading-zero n =
+    by-digits (λ (n : ℕ) (l : List ℕ). (0 < length l) × (getD l 0 0 ≡ 48 → n ≡ 0)) (λ n small. (omega arith, λ h. omega arith))
+    (λ n l large before. (
+      simp length-append (omega arith),
+      λ h. absurd (omega (arith, before .1 (sym (List·getD-append l ((48 + n % 10) ∷ []) 0 0 (before .0)) ∙ h))),
+    )) (suc n) n (omega arith) .1
+
+-- ---- every run ends: as many steps as there are bytes are enough, and more change nothing
+module _ (s : List ℕ) where
+  -- two counts give the same answers by a reading if they do from any place after it
+  same-by : (j k at index : ℕ) (d : Device) (r : Reading) → ReadingFrom s at r
+      → ((next i : ℕ) (e : Device) → at < next → answersFrom j s next i e ≡ answersFrom k s next i e)
+      → answersBy (answersFrom j s) index d r ≡ answersBy (answersFrom k s) index d r
+  same-by j k at index d (reading.Event e next) from same = rw (same next (index + 1) (answeredOf d (made.Event e) .device) (from .0))
+  same-by j k at index d (reading.Refused r next) from same = rw (same next (index + 1) (answeredOf d (made.Refused r) .device) (from .0))
+  same-by j k at index d (reading.Ended r) from same = refl
+  same-by j k at index d reading.End from same = refl
+
+  short-enough : length s ≤ 65536 → (j k at index : ℕ) (d : Device) → length s ≤ at + j → length s ≤ at + k
+      → answersFrom j s at index d ≡ answersFrom k s at index d
+  unfolding answersFrom
+  short-enough short zero zero at index d few-j few-k = refl
+  short-enough short zero (suc k) at index d few-j few-k = rw (past-the-end s at short (omega arith))
+  short-enough short (suc j) zero at index d few-j few-k = rw (past-the-end s at short (omega arith))
+  short-enough short (suc j) (suc k) at index d few-j few-k =
+      same-by j k at index d (readAt s at) (reading-from s at)
+      (λ next i e past. short-enough short j k next i e (omega arith) (omega arith))
+
+  long-enough : 65536 < length s → (k : ℕ) → 0 < k → answersIn k s ≡ record { index = 0; answer = answer.Refused refusal.Long } ∷ []
+  unfolding answersFrom
+  long-enough long zero some = absurd (omega arith)
+  long-enough long (suc k) some = rw (long-refused s 0 long)
+
+  pub every-run-ends : (k : ℕ) → length s ≤ k → answersIn k s ≡ answersOf s
+  unfolding answersOf
+  every-run-ends k few =
+      below-or-not 65536 (length s)
+      (λ long. long-enough long k (omega arith) ∙ sym (long-enough long (length s) (omega arith)))
+      (λ short. short-enough short k (length s) 0 0 newDevice (omega arith) (omega arith))
+
+  most-by : (k index : ℕ) (d : Device) (r : Reading) → ((next i : ℕ) (e : Device) → length (answersFrom k s next i e) ≤ k)
+      → length (answersBy (answersFrom k s) index d r) ≤ suc k
+  most-by k index d (reading.Event e next) most = omega (arith, most next (index + 1) (answeredOf d (made.Event e) .device))
+  most-by k index d (reading.Refused r next) most = omega (arith, most next (index + 1) (answeredOf d (made.Refused r) .device))
+  most-by k index d (reading.Ended r) most = omega arith
+  most-by k index d reading.End most = omega arith
+
+  at-most : (k at index : ℕ) (d : Device) → length (answersFrom k s at index d) ≤ k
+  unfolding answersFrom
+  at-most zero at index d = omega arith
+  at-most (suc k) at index d = most-by k index d (readAt s at) (λ next i e. at-most k next i e)
+
+  pub no-more-answers-than-bytes : length (answersOf s) ≤ length s
+  unfolding answersOf
+  no-more-answers-than-bytes = at-most (length s) 0 0 newDevice
+
+-- ---- "index from 0"
+abbrev pub CountedFrom : ℕ → List Indexed → Type 0
+CountedFrom index [] = Unit {0}
+CountedFrom index (a ∷ rest) = (a .index ≡ index) × CountedFrom (index + 1) rest
+
+module _ (s : List ℕ) where
+  counted-by : (k index : ℕ) (d : Device) (r : Reading) → ((next i : ℕ) (e : Device) → CountedFrom i (answersFrom k s next i e))
+      → CountedFrom index (answersBy (answersFrom k s) index d r)
+  counted-by k index d (reading.Event e next) counted = (refl, counted next (index + 1) (answeredOf d (made.Event e) .device))
+  counted-by k index d (reading.Refused r next) counted = (refl, counted next (index + 1) (answeredOf d (made.Refused r) .device))
+  counted-by k index d (reading.Ended r) counted = (refl, tt)
+  counted-by k index d reading.End counted = tt
+
+  counted : (k at index : ℕ) (d : Device) → CountedFrom index (answersFrom k s at index d)
+  unfolding answersFrom
+  counted zero at index d = tt
+  counted (suc k) at index d = counted-by k index d (readAt s at) (λ next i e. counted k next i e)
+
+  pub counted-from-zero : CountedFrom 0 (answersOf s)
+  unfolding answersOf
+  counted-from-zero = counted (length s) 0 0 newDevice
+
+-- ---- "An empty file gives no lines."
+pub empty-input : textOf [] ≡ []
+unfolding textOf answersOf answersFrom linesOf
+empty-input = refl
+
+-- ---- "For 9 it prints only "0 REFUSED 9"."
+pub long-input : (s : List ℕ) → 65536 < length s
+    → textOf s ≡ 48 ∷ 32 ∷ 82 ∷ 69 ∷ 70 ∷ 85 ∷ 83 ∷ 69 ∷ 68 ∷ 32 ∷ 57 ∷ 10 ∷ []
+unfolding textOf answersOf linesOf lineOf lineWith decimal lastDigits
+long-input s long = rw (long-enough s long (length s) (omega arith))
+
+-- ---- a run taken step by step says the text of its answers
+module _ (s : List ℕ) where
+  said-by : (n : ℕ) (c : Cursor) (r : Reading)
+      → ((e : Cursor) → e .over ≡ false → textIn n s e ≡ linesOf (answersFrom n s (e .place) (e .index) (e .device)))
+      → textSaid (c .index) (advancedBy c r .said) ++ textIn n s (advancedBy c r .cursor)
+      ≡ linesOf (answersBy (answersFrom n s) (c .index) (c .device) r)
+  unfolding textSaid linesOf
+  said-by n c (reading.Event e next) same = rw (same (advancedBy c (reading.Event e next) .cursor) refl)
+  said-by n c (reading.Refused r next) same = rw (same (advancedBy c (reading.Refused r next) .cursor) refl)
+  said-by n c (reading.Ended r) same = rw (over-silent s n (endedAt c) refl)
+  said-by n c reading.End same = over-silent s n (endedAt c) refl
+
+  steps-say-the-answers : (n : ℕ) (c : Cursor) → c .over ≡ false
+      → textIn n s c ≡ linesOf (answersFrom n s (c .place) (c .index) (c .device))
+  unfolding textIn answersFrom linesOf
+  steps-say-the-answers zero c going = refl
+  steps-say-the-answers (suc n) c going =
+      rw (going-advanced s c going) (said-by n c (readAt s (c .place)) (λ e going-on. steps-say-the-answers n e going-on))
+
+  pub steps-are-the-text : (n : ℕ) → length s ≤ n → textIn n s newCursor ≡ textOf s
+  unfolding textOf newCursor
+  steps-are-the-text n few = steps-say-the-answers n newCursor refl ∙ ap linesOf (every-run-ends s n few)
+
+  -- once the run is over the text is whole
+  pub over-is-whole : (n : ℕ) → cursorAfter n s newCursor .over ≡ true → textIn n s newCursor ≡ textOf s
+  over-is-whole n over =
+      sym (text-sum s n (length s) newCursor ∙ rw (over-silent s (length s) (cursorAfter n s newCursor) over, append-nil))
+      ∙ steps-are-the-text (n + length s) (omega arith)
+
+-- ---- buffers filled one after the other, each of a number of bytes, from a cursor on
+unfoldable pub textOfFills : List ℕ → List ℕ → Cursor → List ℕ
+textOfFills [] s c = []
+textOfFills (bytes ∷ more) s c = textIn (bytes / 16) s c ++ textOfFills more s (filledBy (bytes / 16) s c .cursor)
+
+unfoldable pub cursorAfterFills : List ℕ → List ℕ → Cursor → Cursor
+cursorAfterFills [] s c = c
+cursorAfterFills (bytes ∷ more) s c = cursorAfterFills more s (filledBy (bytes / 16) s c .cursor)
+
+-- how many lines they have room for
+abbrev pub linesIn : List ℕ → ℕ
+linesIn [] = 0
+linesIn (bytes ∷ more) = bytes / 16 + linesIn more
+
+-- each has room for a line at least
+abbrev pub RoomInEach : List ℕ → Type 0
+RoomInEach [] = Unit {0}
+RoomInEach (bytes ∷ more) = (16 ≤ bytes) × RoomInEach more
+
+-- a filled buffer holds up to the count the text of its lines
+pub front-is-the-text : (n : ℕ) (s : List ℕ) (c : Cursor) (rest : List ℕ) → take (filledBy n s c .count) (textIn n s c ++ rest) ≡ textIn n s c
+unfolding filledBy
+front-is-the-text n s c rest = take-append-seam (textIn n s c) rest
+
+-- so that the count is within the buffer
+pub count-within : (n : ℕ) (s : List ℕ) (c : Cursor) (filled : Filled) (out rest : List ℕ)
+    → filled ≡ filledBy n s c → out ≡ textIn n s c ++ rest → filled .count ≤ length out
+unfolding filledBy
+count-within n s c filled out rest is holds = rw (is, holds, length-append) (omega arith)
+
+module _ (s : List ℕ) where
+  fills-are-steps : (buffers : List ℕ) (c : Cursor)
+      → (textOfFills buffers s c ≡ textIn (linesIn buffers) s c) × (cursorAfterFills buffers s c ≡ cursorAfter (linesIn buffers) s c)
+  unfolding textOfFills cursorAfterFills textIn cursorAfter filledBy
+  fills-are-steps [] c = (refl, refl)
+  fills-are-steps (bytes ∷ more) c =
+      let rest = fills-are-steps more (cursorAfter (bytes / 16) s c) in (
+        rw (rest .0) (sym (text-sum s (bytes / 16) (linesIn more) c)),
+        rest .1 ∙ sym (cursor-sum s (bytes / 16) (linesIn more) c),
+      )
+
+  a-line-in-each : (buffers : List ℕ) → RoomInEach buffers → length buffers ≤ linesIn buffers
+  a-line-in-each [] room = omega arith
+  a-line-in-each (bytes ∷ more) room = omega (arith, room .0, a-line-in-each more (room .1))
+
+  -- whatever their sizes, they hold the whole text and nothing else once the run is over
+  pub fills-are-the-text : (buffers : List ℕ) → cursorAfterFills buffers s newCursor .over ≡ true → textOfFills buffers s newCursor ≡ textOf s
+  fills-are-the-text buffers over =
+      let steps = fills-are-steps buffers newCursor in
+      steps .0 ∙ over-is-whole s (linesIn buffers) (rw (steps .1) at over)
+
+  new-left : left s newCursor ≡ suc (length s)
+  unfolding newCursor
+  new-left = omega arith
+
+  -- and with room for a line in each, one more of them than the input has bytes ends the run
+  pub fills-end : (buffers : List ℕ) → RoomInEach buffers → length s < length buffers → cursorAfterFills buffers s newCursor .over ≡ true
+  fills-end buffers room many =
+      rw (fills-are-steps buffers newCursor .1)
+      (over-after s (linesIn buffers) newCursor (omega (arith, new-left, a-line-in-each buffers room)))

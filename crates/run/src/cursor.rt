@@ -1,0 +1,154 @@
+// How far a run is, its next step, and a buffer filled with its next lines.
+use crate::line::put_answer;
+use device::Answer;
+use device::Device;
+use event::Reading;
+use event::read_at;
+ghost use mathlib.Core.Path.{_≡_};
+ghost use mathlib.Core.List.{_++_};
+ghost use Prim.Native.Nat.{_+_, _/_, _≤_};
+ghost use lib.ListN.{length, drop};
+ghost use lib.Seq.{sets};
+ghost use Rattle.run.specs.Cursor.{WellFormed, newCursor, endedAt, advancedOf, textSaid, textIn, filledBy};
+
+// The bytes of the longest line.
+const LINE: usize = 16;
+
+// The device after the events so far, the place and the index of the next, and whether the run is over.
+pub struct Cursor {
+    pub device: Device,
+    pub place: usize,
+    pub index: u32,
+    pub over: bool,
+}
+
+// What a step says: an answer under the cursor's index, or nothing.
+enum Said {
+    Answer(Answer),
+    Nothing,
+}
+
+struct Advanced {
+    cursor: Cursor,
+    said: Said,
+}
+
+// The cursor after the lines that were put into a buffer, and how many bytes they are.
+pub struct Filled {
+    pub cursor: Cursor,
+    pub count: usize,
+}
+
+fn put_said(out: &mut [u8], at: usize, index: u32, said: Said) -> usize
+    requires { ⌜ (index ≤ 65536) × (at + 16 ≤ length (now out)) ⌝ }
+    ensures { λ r. ⌜ (r ≡ at + length (textSaid index said)) × (r ≤ at + 16) ⌝ }
+    ensures { λ _. ⌜ now (out .exit) ≡ sets (now (out .entry)) at (textSaid index said) ⌝ }
+{
+    match said {
+        Said::Answer(answer) => put_answer(out, at, index, answer),
+        Said::Nothing => at,
+    }
+}
+
+impl Cursor {
+    pub fn new() -> Cursor
+        ensures { λ r. ⌜ r ≡ newCursor ⌝ }
+    {
+        Cursor {
+            device: Device::new(),
+            place: 0,
+            index: 0,
+            over: false,
+        }
+    }
+
+    // The same with the run over.
+    fn ended(self) -> Cursor
+        ensures { λ r. ⌜ r ≡ endedAt self ⌝ }
+    {
+        let mut next = self;
+        next.over = true;
+        next
+    }
+
+    // One event read and answered.
+    fn advance(self, input: &[u8]) -> Advanced
+        requires { ⌜ WellFormed self ⌝ }
+        ensures { λ r. ⌜ r ≡ advancedOf (now (input .entry)) self ⌝ }
+    {
+        if self.over {
+            return Advanced {
+                cursor: self,
+                said: Said::Nothing,
+            };
+        }
+        match read_at(input, self.place) {
+            Reading::Event { event, next } => {
+                let device = self.device;
+                let done = device.step(event);
+                let now = done.device;
+                let answer = done.answer;
+                let index = self.index + 1;
+                let cursor = Cursor {
+                    device: now,
+                    place: next,
+                    index: index,
+                    over: false,
+                };
+                Advanced {
+                    cursor: cursor,
+                    said: Said::Answer(answer),
+                }
+            }
+            Reading::Refused { refusal, next } => {
+                let index = self.index + 1;
+                let mut cursor = self;
+                cursor.place = next;
+                cursor.index = index;
+                Advanced {
+                    cursor: cursor,
+                    said: Said::Answer(Answer::Refused(refusal)),
+                }
+            }
+            Reading::Ended(refusal) => Advanced {
+                cursor: self.ended(),
+                said: Said::Answer(Answer::Refused(refusal)),
+            },
+            Reading::End => Advanced {
+                cursor: self.ended(),
+                said: Said::Nothing,
+            },
+        }
+    }
+
+    // The next lines put at the start of a buffer, one for each sixteen bytes of it where the run has so many left.
+    pub fn fill(self, input: &[u8], out: &mut [u8]) -> Filled
+        requires { ⌜ WellFormed self ⌝ }
+        ensures { λ r. ⌜ r ≡ filledBy (length (now (out .entry)) / 16) (now (input .entry)) self ⌝ }
+        ensures { λ r. ⌜ now (out .exit) ≡ textIn (length (now (out .entry)) / 16) (now (input .entry)) self ++ drop (r .count) (now (out .entry)) ⌝ }
+    {
+        let lines = out.len() / LINE;
+        let mut cursor = self;
+        let mut count = 0;
+        let mut i = 0;
+        while i < lines {
+            if cursor.over {
+                return Filled {
+                    cursor: cursor,
+                    count: count,
+                };
+            }
+            let index = cursor.index;
+            let step = cursor.advance(input);
+            let said = step.said;
+            let next = step.cursor;
+            count = put_said(out, count, index, said);
+            cursor = next;
+            i += 1;
+        }
+        Filled {
+            cursor: cursor,
+            count: count,
+        }
+    }
+}
