@@ -20,6 +20,7 @@ ghost use mathlib.Core.Path.{_≡_};
 ghost use Prim.Native.Nat.{_≤_};
 ghost use Rattle.channel.specs.Channel.{WellFormed, pendingAt, shownBy, statusOf, readOf, replyOf, rtsAsserted, momentOf, touchedOf, resetOf, blankChannel};
 
+#[repr(C)]
 pub struct Channel {
     pub settings: Settings,
     pub rx: Queue,

@@ -2,6 +2,7 @@
 -- contract as the source states it, over the arguments, the result and what is left of anything lent.
 use contract.Lifetimes.{Lfts}
 use mathlib.Core.Path.{_≡_, sym, _∙_}
+use Prim.Native.Nat.{ℕ}
 use Rattle.bits.proofs.chosen.Reads as bits-chosen
 use Rattle.bits.proofs.one_if.Reads as bits-one-if
 use Rattle.bits.proofs.part.Reads as bits-part
@@ -70,6 +71,11 @@ use Rattle.device.proofs.device.Device.new.Reads as device-new
 use Rattle.device.proofs.device.Device.reset.Reads as device-reset
 use Rattle.device.proofs.device.Device.step.Reads as device-step
 use Rattle.device.proofs.device.Device.step_numbers.Reads as device-step-numbers
+use Rattle.device.proofs.device.Device.step_numbered.Reads as device-step-numbered
+use Rattle.device.proofs.device.Answer.number.Reads as device-answer-number
+use Rattle.event.specs.declared.events.Made.{Made}
+use Rattle.device.specs.declared.device.Device.{Device}
+use Rattle.device.specs.Lent.{Advanced}
 
 abbrev pub Determined : {A R S : Type 0} → (A → R → S → Type 0) → Type 0
 Determined {A} {R} {S} allowed = (a : A) (r r′ : R) (s s′ : S) → allowed a r s → allowed a r′ s′ → r ≡ r′
@@ -282,3 +288,14 @@ device-step-determined = by-equation (λ a r s h. h)
 
 pub device-step-numbers-determined : Determined (device-step-numbers.Post tt)
 device-step-numbers-determined = by-equation (λ a r s h. h)
+
+pub device-step-numbered-determined : Determined (device-step-numbered.Post tt)
+device-step-numbered-determined = by-equation (λ a r s h. h)
+
+pub device-answer-number-determined : Determined (device-answer-number.Post tt)
+device-answer-number-determined = by-equation (λ a r s h. h)
+
+-- a lent step's contract is `Advanced`, which leaves no choice of the number or of the record
+pub device-advance-determined : (before : Device) (m : Made) (after after′ : Device) (n n′ : ℕ)
+    → Advanced before m after n → Advanced before m after′ n′ → (n ≡ n′) × (after ≡ after′)
+device-advance-determined before m after after′ n n′ p q = (p .0 ∙ sym (q .0), p .1 ∙ sym (q .1))

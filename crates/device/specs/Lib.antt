@@ -1,4 +1,5 @@
 -- What the contracts of `device` cite, and the theorems on it.
 pub mod Effects
 pub mod Device
+pub mod Lent
 pub mod Laws

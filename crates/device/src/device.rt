@@ -15,6 +15,7 @@ ghost use mathlib.Core.Path.{_≡_};
 ghost use Rattle.event.specs.Events.{eventOf, judgedOf};
 ghost use Rattle.device.specs.Device.{WellFormed, settingsAt, touchedAt, rtsAt, irqAt, lookReply, resetDevice, newDevice, stepOf, answeredOf};
 
+#[repr(C)]
 pub struct Device {
     pub a: Channel,
     pub b: Channel,

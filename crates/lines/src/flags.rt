@@ -7,6 +7,7 @@ use registers::Touch;
 ghost use mathlib.Core.Path.{_≡_};
 ghost use Rattle.lines.specs.Flags.{flagsCleared, flagsRead, flagsArrived, flagsPins, flagsAfter, flagsSettled};
 
+#[repr(C)]
 pub struct Flags {
     pub special: bool,
     pub cts: bool,

@@ -8,6 +8,7 @@ ghost use mathlib.Core.Path.{_≡_};
 ghost use Prim.Native.Nat.{_<_};
 ghost use Rattle.lines.specs.Modem.{ctsAsserted, ctsOff, pinsChanged, modemRead, modemAfter, msrOf};
 
+#[repr(C)]
 pub struct Modem {
     pub pins: u8,
     pub changes: u8,

@@ -10,6 +10,7 @@ ghost use mathlib.Core.Path.{_≡_};
 ghost use Prim.Native.Nat.{_<_, _≤_};
 ghost use Rattle.lines.specs.Receive.{quietAfter, readsLsr, overrunAfter, lineAfter, fateNumber, lsrOf};
 
+#[repr(C)]
 pub struct Line {
     pub overrun: bool,
     pub quiet: u8,

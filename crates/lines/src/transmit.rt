@@ -9,6 +9,7 @@ ghost use Prim.Native.Nat.{_<_, _≤_};
 ghost use Rattle.lines.specs.Transmit.{spacesOf, isBusy, shiftLoaded, shiftAfter, slotReply, thrCondition};
 
 // A character that is being sent.
+#[repr(C)]
 pub struct Shift {
     pub full: bool,
     pub byte: u8,

@@ -11,6 +11,7 @@ pub struct Character {
     pub mark: u8,
 }
 
+#[repr(C)]
 pub struct Queue {
     bytes: [u8; 64],
     marks: [u8; 64],

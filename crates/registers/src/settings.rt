@@ -7,6 +7,7 @@ ghost use mathlib.Core.Path.{_≡_};
 ghost use Rattle.registers.specs.Windows.{enhancedAt, divisorAt, generalAt, registerAt, tcrOpen};
 ghost use Rattle.registers.specs.Writes.{guardOpen, ierWritten, fcrWritten, mcrWritten, efcrWritten, divisorWritten, writtenTo, resetFrom};
 
+#[repr(C)]
 pub struct Settings {
     pub lcr: u8,
     pub ier: u8,

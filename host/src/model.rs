@@ -1,0 +1,1005 @@
+//! A second model of document 01, written by hand from the document alone.
+//!
+//! `Model` is the plain one. `Machine` with a `Wrong` has one rule wrong; the plain model pays nothing for it.
+use crate::wrong::Wrong::{self, *};
+use crate::Answer;
+use std::collections::VecDeque;
+
+/// Says which rule is wrong.
+pub trait Switch: Copy {
+    fn has(self, wrong: Wrong) -> bool;
+
+    /// The right value, unless the wrong change is on.
+    #[inline(always)]
+    fn pick<T>(self, right: T, wrong: Wrong, other: T) -> T {
+        if self.has(wrong) { other } else { right }
+    }
+}
+
+/// No rule is wrong.
+#[derive(Clone, Copy, Debug)]
+pub struct Right;
+
+impl Switch for Right {
+    #[inline(always)]
+    fn has(self, _: Wrong) -> bool {
+        false
+    }
+}
+
+pub type Model = Machine<Right>;
+
+// Marks: "1 parity wrong (in 9-bit mode: ninth bit is 1), 2 framing wrong, 4 break".
+const NINTH: u8 = 1;
+const BREAK: u8 = 4;
+
+// Fates: "0 kept, 1 lost for want of room, 2 dropped by a disabled receiver, 3 dropped by address".
+const KEPT: u32 = 0;
+const LOST: u32 = 1;
+const DISABLED: u32 = 2;
+const ADDRESS: u32 = 3;
+
+/// "character that left, or 256"
+const NONE_LEFT: u32 = 256;
+
+/// "Room is 64 with FCR 0 set"; "Room is 64 in both modes".
+const ROOM: usize = 64;
+
+/// "quiet count 4"
+const QUIET: u8 = 4;
+
+const CTS: u8 = 1;
+
+/// "by FCR 7:6 one of 8, 16, 56, 60"
+const RECEIVE_LEVELS: [usize; 4] = [8, 16, 56, 60];
+/// "by FCR 5:4 one of 8, 16, 32, 56"
+const TRANSMIT_LEVELS: [usize; 4] = [8, 16, 32, 56];
+/// "resume 0, 8, 16 or 56 in step"
+const RESUME_LEVELS: [usize; 4] = [0, 8, 16, 56];
+
+/// Which registers LCR opens.
+#[derive(Clone, Copy, PartialEq, Eq)]
+enum Window {
+    General,
+    Enhanced,
+    Divisor,
+}
+
+#[inline(always)]
+fn bit(byte: u8, n: u32) -> bool {
+    byte >> n & 1 != 0
+}
+
+/// A number of an event, or the refusal for one above its range.
+#[inline(always)]
+fn up_to(most: u64, n: u64, refusal: u32) -> Result<u8, u32> {
+    if n <= most { Ok(n as u8) } else { Err(refusal) }
+}
+
+struct Channel<S> {
+    w: S,
+    lcr: u8,
+    ier: u8,
+    fcr: u8,
+    mcr: u8,
+    efr: u8,
+    tcr: u8,
+    tlr: u8,
+    efcr: u8,
+    dll: u8,
+    dlh: u8,
+    spr: u8,
+    xon: [u8; 2],
+    xoff: [u8; 2],
+    /// CD 8, RI 4, DSR 2, CTS 1.
+    pins: u8,
+    /// MSR 3:0.
+    changes: u8,
+    /// Characters with their marks, oldest first.
+    received: VecDeque<(u8, u8)>,
+    /// How many of them have a mark that isn't 0.
+    marked: usize,
+    waiting: VecDeque<u8>,
+    shift: Option<u8>,
+    overrun: bool,
+    quiet: u8,
+    thr_flag: bool,
+    special_flag: bool,
+    cts_flag: bool,
+    rts_flag: bool,
+    /// The auto-RTS latch, true while asserted.
+    latch: bool,
+}
+
+impl<S: Switch> Channel<S> {
+    /// "A new device is a reset one with those bytes and the pins 0."
+    fn new(w: S) -> Channel<S> {
+        let mut channel = Channel {
+            w,
+            lcr: 0,
+            ier: 0,
+            fcr: 0,
+            mcr: 0,
+            efr: 0,
+            tcr: 0,
+            tlr: 0,
+            efcr: 0,
+            dll: 0,
+            dlh: 0,
+            spr: 0,
+            xon: [0; 2],
+            xoff: [0; 2],
+            pins: 0,
+            changes: 0,
+            received: VecDeque::with_capacity(ROOM),
+            marked: 0,
+            waiting: VecDeque::with_capacity(ROOM),
+            shift: None,
+            overrun: false,
+            quiet: 0,
+            thr_flag: false,
+            special_flag: false,
+            cts_flag: false,
+            rts_flag: false,
+            latch: true,
+        };
+        channel.reset();
+        channel
+    }
+
+    fn reset(&mut self) {
+        let w = self.w;
+        // "LCR 1D; IER, FCR, MCR, EFR, TCR, TLR, EFCR 0"
+        self.lcr = w.pick(0x1D, ResetLcr, 0x03);
+        self.ier = w.pick(0, ResetKeepsIer, self.ier);
+        self.fcr = w.pick(0, ResetKeepsFcr, self.fcr);
+        self.mcr = w.pick(0, ResetKeepsMcr, self.mcr);
+        self.efr = w.pick(0, ResetKeepsEfr, self.efr);
+        self.tcr = w.pick(0, ResetKeepsTcr, self.tcr);
+        self.tlr = w.pick(0, ResetKeepsTlr, self.tlr);
+        self.efcr = w.pick(0, ResetKeepsEfcr, self.efcr);
+        // "both queues, shift register, overrun, MSR 3:0, quiet count and flags cleared"
+        if !w.has(ResetKeepsReceived) {
+            self.clear_received();
+        }
+        if !w.has(ResetKeepsWaiting) {
+            self.waiting.clear();
+        }
+        self.shift = w.pick(None, ResetKeepsShift, self.shift);
+        self.overrun = w.pick(false, ResetKeepsOverrun, self.overrun);
+        self.changes = w.pick(0, ResetKeepsChanges, self.changes);
+        self.quiet = 0;
+        self.special_flag = w.pick(false, ResetKeepsSpecial, self.special_flag);
+        self.cts_flag = w.pick(false, ResetKeepsCts, self.cts_flag);
+        self.rts_flag = w.pick(false, ResetKeepsRts, self.rts_flag);
+        // "THR flag set (house); auto-RTS latch asserted"
+        self.thr_flag = w.pick(true, ResetThrFlagClear, false);
+        self.latch = true;
+        // "DLL, DLH, SPR, XON and XOFF keep theirs. Pins are inputs and stay."
+        if w.has(ResetSpr) {
+            self.spr = 0;
+        }
+        if w.has(ResetDivisor) {
+            (self.dll, self.dlh) = (0, 0);
+        }
+        if w.has(ResetXon) {
+            (self.xon, self.xoff) = ([0; 2], [0; 2]);
+        }
+        if w.has(ResetPins) {
+            self.pins = 0;
+        }
+    }
+
+    /// "Within an event: the act, the latch, the RTS flag, the THR flag".
+    #[inline]
+    fn event(&mut self, act: impl FnOnce(&mut Self) -> u32) -> u32 {
+        let (rts, latch, ready) = (self.rts(), self.latch, self.thr_condition());
+        let reply = act(self);
+        self.settle(rts, latch, ready);
+        reply
+    }
+
+    #[inline]
+    fn settle(&mut self, rts: bool, latch: bool, ready: bool) {
+        let w = self.w;
+        let early = w.has(RtsFlagBefore) && rts && !self.rts();
+        // "asserted if EFR 6 is clear; else off at count ≥ halt; else on at count ≤ resume; else as before"
+        self.latch = if !bit(self.efr, 6) {
+            w.pick(true, LatchStays, self.latch)
+        } else {
+            let (halt, resume) = self.halt_and_resume();
+            let count = self.received.len();
+            let on = w.pick(count <= resume, ResumeBelow, count < resume);
+            if w.has(ResumeFirst) && on {
+                true
+            } else if w.pick(count >= halt, HaltAbove, count > halt) {
+                false
+            } else {
+                on || w.pick(self.latch, LatchFree, true)
+            }
+        };
+        // "The RTS flag sets when RTS goes from asserted to not."
+        let now = self.rts();
+        if w.has(RtsFlagBefore) {
+            self.rts_flag |= early;
+        } else if w.has(RtsFlagLatch) {
+            self.rts_flag |= latch && !self.latch;
+        } else if rts && !now || w.has(RtsFlagEither) && rts != now {
+            self.rts_flag = true;
+        }
+        // "After each event the flag sets if the condition has become true and clears if it is false."
+        if !self.thr_condition() {
+            self.thr_flag = w.pick(false, ThrStays, self.thr_flag);
+        } else if !ready || w.has(ThrAgain) {
+            self.thr_flag = true;
+        }
+    }
+
+    // Register windows.
+
+    #[inline]
+    fn window(&self) -> Window {
+        // "LCR bit 7 = 0: general set. LCR = BF: EFR 2, XON1 4, ... Other LCR with bit 7 = 1: DLL 0, DLH 1."
+        match self.lcr {
+            0xBF => Window::Enhanced,
+            lcr if bit(lcr, 7) => self.w.pick(Window::Divisor, BfByTopBit, Window::Enhanced),
+            _ => Window::General,
+        }
+    }
+
+    /// "With EFR bit 4 and MCR bit 2 both set, 6 is TCR and 7 is TLR."
+    #[inline]
+    fn levels_open(&self) -> bool {
+        (bit(self.efr, 4) || self.w.has(LevelsByMcr)) && (bit(self.mcr, 2) || self.w.has(LevelsByEfr))
+    }
+
+    /// "Written only with EFR bit 4 set: ...; otherwise those bits keep their value."
+    #[inline]
+    fn guarded(&self, old: u8, new: u8, bits: u8) -> u8 {
+        let kept = if bit(self.efr, 4) { 0 } else { bits };
+        old & kept | new & !kept
+    }
+
+    fn write(&mut self, address: u8, byte: u8) {
+        let w = self.w;
+        match (self.window(), address) {
+            // "LCR (3) is always open."
+            (_, 3) => self.lcr = byte & w.pick(0xFF, LcrSixLost, 0xBF),
+            (Window::General, 0) => self.write_thr(byte),
+            (Window::General, 1) => {
+                let bits = w.pick(w.pick(0xF0, IerGuardMissing, 0), IerGuardWhole, 0xFF);
+                let old = w.pick(self.ier, IerGuardZeroes, 0);
+                self.ier = self.guarded(old, byte & w.pick(0xFF, IerFourLost, 0xEF), bits);
+                if w.has(ThrByIer) && self.thr_condition() {
+                    self.thr_flag = true;
+                }
+            }
+            (Window::General, 2) => self.write_fcr(byte),
+            (Window::General, 4) => {
+                let bits = w.pick(w.pick(0xE4, McrGuardMissing, 0x04), McrTwoUnguarded, 0xE0);
+                let bits = w.pick(bits, McrFourGuarded, 0xF4);
+                // "FCR 3, MCR 3 and EFCR 7, 6, 3 stay 0."
+                let stored = w.pick(w.pick(0xF7, McrThreeStored, 0xFF), McrTopLost, 0x17);
+                self.mcr = self.guarded(self.mcr, byte & stored, bits);
+            }
+            (Window::General, 6 | 7) if self.levels_open() => {
+                if (address == 6) != w.has(LevelsExchanged) {
+                    self.tcr = byte;
+                } else {
+                    self.tlr = byte;
+                    if w.has(SprBehindTlr) {
+                        self.spr = byte;
+                    }
+                }
+            }
+            (Window::General, 7) => self.spr = byte,
+            (Window::General, 0x0F) => self.write_efcr(byte),
+            // "DLL and DLH take nothing while IER 4 is set."
+            (Window::Divisor, 0) if !bit(self.ier, 4) || w.has(DllUnguarded) => self.dll = byte,
+            (Window::Divisor, 1) if !bit(self.ier, 4) || w.has(DlhUnguarded) => self.dlh = byte,
+            (Window::Enhanced, 2) => self.efr = byte & w.pick(0xFF, EfrLowLost, 0xF0),
+            (Window::Enhanced, 4 | 5) => self.xon[usize::from(address - 4)] = byte,
+            (Window::Enhanced, 6 | 7) => self.xoff[usize::from(address - 6)] = byte,
+            (Window::Enhanced, 0) if w.has(DivisorInBf) => self.dll = byte,
+            (Window::Enhanced, 1) if w.has(DivisorInBf) => self.dlh = byte,
+            (_, 0x0F) if w.has(EfcrAlways) => self.write_efcr(byte),
+            (Window::General, 5) if w.has(LsrWritten) => self.overrun = false,
+            (Window::General, 6) if w.has(MsrWritten) => self.changes = 0,
+            // "Any other address is closed there: reads 0, writes nothing." "Writes to LSR, MSR, TXLVL and
+            // RXLVL do nothing." "Addresses 0A to 0D read 0 and take nothing."
+            _ => {}
+        }
+    }
+
+    fn write_efcr(&mut self, byte: u8) {
+        let w = self.w;
+        let bits = 0x37
+            | w.pick(0, EfcrSevenStored, 0x80)
+            | w.pick(0, EfcrSixStored, 0x40)
+            | w.pick(0, EfcrThreeStored, 0x08);
+        self.efcr = byte & bits;
+    }
+
+    fn write_fcr(&mut self, byte: u8) {
+        let w = self.w;
+        // "Bits 1 and 2 aren't stored."
+        let bits = w.pick(w.pick(0x30, FcrGuardMissing, 0), FcrGuardWide, 0xF0);
+        let fcr = self.guarded(self.fcr, byte & 0xF1, bits);
+        let turned = bit(fcr ^ self.fcr, 0) || w.has(FifoAlwaysClears) && bit(fcr, 0);
+        self.fcr = fcr;
+        // "An FCR write with bit 1 set clears the receive queue, with bit 2 the transmit queue; a change of
+        // bit 0 clears both (house). Overrun stays."
+        let (mut receive, mut transmit) = (bit(byte, 1), bit(byte, 2));
+        if w.has(ClearsExchanged) {
+            (receive, transmit) = (transmit, receive);
+        }
+        if w.has(ClearNeedsFifo) && !bit(fcr, 0) {
+            (receive, transmit) = (false, false);
+        }
+        if receive || turned && !w.has(FifoKeepsReceived) {
+            self.clear_received();
+        }
+        if transmit || turned && !w.has(FifoKeepsWaiting) {
+            self.waiting.clear();
+            if w.has(ClearShift) {
+                self.shift = None;
+            }
+        }
+    }
+
+    fn clear_received(&mut self) {
+        self.received.clear();
+        self.marked = 0;
+        // "an arrival of any fate, an RHR read or a receive clear makes it 0"
+        self.quiet = 0;
+        if self.w.has(ClearOverrun) {
+            self.overrun = false;
+        }
+    }
+
+    fn read(&mut self, address: u8) -> u8 {
+        let w = self.w;
+        match (self.window(), address) {
+            (Window::Enhanced, 3) if w.has(LcrShut) => 0,
+            (_, 3) => self.lcr,
+            (Window::General, 0) => self.read_rhr(),
+            (Window::General, 1) => self.ier,
+            (Window::General, 2) => self.read_iir(),
+            (Window::General, 4) => self.mcr,
+            (Window::General, 5) => {
+                let lsr = self.lsr();
+                // "1 overrun, cleared by this read"
+                self.overrun = w.pick(false, LsrKeepsOverrun, self.overrun);
+                lsr
+            }
+            (Window::General, 6 | 7) if self.levels_open() && !(address == 6 && w.has(MsrBesideTcr)) => {
+                if (address == 6) != w.has(LevelsExchanged) { self.tcr } else { self.tlr }
+            }
+            (Window::General, 6) => {
+                // "MSR 7:4 show CD, RI, DSR, CTS; MSR 3:0 are ... cleared by an MSR read."
+                let shown = w.pick(self.pins, PinsTurned, self.pins.reverse_bits() >> 4);
+                let msr = shown << 4 | self.changes;
+                self.changes = w.pick(0, MsrKeeps, self.changes);
+                msr
+            }
+            (Window::General, 7) => self.spr,
+            // "TXLVL is free spaces." "count of queued characters, which RXLVL reads"
+            (Window::General, 8) => w.pick(self.spaces(), LevelQueued, self.waiting.len()) as u8,
+            (Window::General, 9) => self.received.len() as u8,
+            (Window::General, 0x0A..=0x0D) => w.pick(0, GapReads, 0xFF),
+            // "IOControl reads 06"
+            (Window::General, 0x0E) => w.pick(0x06, IoControlZero, 0),
+            (Window::General, 0x0F) => self.efcr,
+            (Window::Divisor, 0) => self.dll,
+            (Window::Divisor, 1) => self.dlh,
+            (Window::Enhanced, 2) => self.efr,
+            (Window::Enhanced, 4 | 5) => self.xon[usize::from(address - 4)],
+            (Window::Enhanced, 6 | 7) => self.xoff[usize::from(address - 6)],
+            (Window::Enhanced, 0) if w.has(DivisorInBf) => self.dll,
+            (Window::Enhanced, 1) if w.has(DivisorInBf) => self.dlh,
+            (_, 0x0E) if w.has(IoControlAlways) => 0x06,
+            (_, 0x0F) if w.has(EfcrAlways) => self.efcr,
+            _ => 0,
+        }
+    }
+
+    // Receive queue.
+
+    /// "the byte is cut to the word length, 5 + LCR 1:0 bits"
+    #[inline]
+    fn cut(&self, byte: u8) -> u8 {
+        let dropped = 3 - (self.lcr & 3);
+        byte & 0xFF >> self.w.pick(dropped, WordSeven, dropped.max(1))
+    }
+
+    fn arrival(&mut self, byte: u8, mark: u8) -> u32 {
+        let w = self.w;
+        // "a break's byte counts as 0"
+        let byte = if mark & BREAK != 0 && !w.has(BreakByteKept) { 0 } else { byte };
+        let character = w.pick(self.cut(byte), ArrivalUncut, byte);
+        // "compared so with the whole XOFF2"
+        let compared = w.pick(self.cut(byte), CompareUncut, byte);
+        let address = w.pick(w.pick(self.xoff[1], XoffCut, self.cut(self.xoff[1])), XoffOne, self.xoff[0]);
+        let equal = compared == address;
+        let ninth = mark & NINTH != 0;
+        let off = bit(self.efcr, 1);
+        let full = self.received.len() >= self.room();
+        let quiet = self.quiet;
+        // "an arrival of any fate ... makes it 0"
+        self.quiet = 0;
+        match (bit(self.efcr, 0), bit(self.efr, 5)) {
+            // "EFCR 0 clear: dropped (2) if EFCR 1 is set. Otherwise it passes, and if EFR 5 is set and it
+            // equals XOFF2 the special flag is set."
+            (false, special) => {
+                let matched = (special || w.has(SpecialAlways)) && equal;
+                if off && !w.has(DisabledPasses) {
+                    self.special_flag |= w.has(DisabledSpecial) && matched;
+                    self.quiet = w.pick(0, QuietDropped, quiet);
+                    return DISABLED;
+                }
+                self.special_flag |= matched && !(full && w.has(LostSpecial));
+            }
+            // "ninth bit 1 and equal to XOFF2 clears EFCR 1 and passes; ninth bit 1 and unequal sets EFCR 1
+            // and is dropped (3) ... No special flag."
+            (true, true) if ninth => {
+                if equal {
+                    if !w.has(MatchLeavesOff) && !(full && w.has(LostMatch)) {
+                        self.efcr &= !2;
+                    }
+                    self.special_flag |= w.has(SpecialNineBit);
+                    if w.has(MatchTaken) {
+                        return KEPT;
+                    }
+                } else {
+                    if !w.has(MismatchLeavesOn) {
+                        self.efcr |= 2;
+                    }
+                    self.overrun |= w.has(DropOverrun);
+                    if w.has(MismatchKept) && !full {
+                        self.keep(character, mark);
+                    }
+                    self.quiet = w.pick(0, QuietDropped, quiet);
+                    return w.pick(ADDRESS, MismatchFate, DISABLED);
+                }
+            }
+            // "ninth bit 1 passes; ninth bit 0 passes unless EFCR 1 is set (2)"
+            (true, auto) => {
+                let dropped = off && (!ninth || w.has(NinthDropped));
+                if dropped && !w.has(if auto { AutoDataPasses } else { DataPasses }) {
+                    self.quiet = w.pick(0, QuietDropped, quiet);
+                    return DISABLED;
+                }
+            }
+        }
+        if w.has(LoopbackActs) && bit(self.mcr, 4)
+            || w.has(SoftFlowActs) && bit(self.efr, 1) && character == self.xoff[0]
+        {
+            return KEPT;
+        }
+        // "A passing character is kept with its mark if fewer than room are queued, else lost (1) and overrun
+        // is set."
+        if full {
+            self.overrun |= !w.has(LossUnseen);
+            self.quiet = w.pick(0, QuietLost, quiet);
+            if w.has(OldestLost) {
+                self.take();
+                self.keep(character, mark);
+            }
+            LOST
+        } else {
+            self.quiet = w.pick(0, QuietKept, quiet);
+            self.keep(character, mark);
+            KEPT
+        }
+    }
+
+    /// "Room is 64 with FCR 0 set, 1 without".
+    #[inline]
+    fn room(&self) -> usize {
+        if bit(self.fcr, 0) {
+            self.w.pick(ROOM, RoomShort, ROOM - 1)
+        } else {
+            self.w.pick(1, RoomWithoutFifo, ROOM)
+        }
+    }
+
+    #[inline]
+    fn keep(&mut self, character: u8, mark: u8) {
+        let mark = self.w.pick(mark, MarkLost, mark & !BREAK);
+        self.received.push_back((character, mark));
+        self.marked += usize::from(mark != 0);
+    }
+
+    #[inline]
+    fn take(&mut self) -> Option<u8> {
+        let (character, mark) =
+            if self.w.has(RhrNewest) { self.received.pop_back() } else { self.received.pop_front() }?;
+        self.marked -= usize::from(mark != 0);
+        Some(character)
+    }
+
+    /// "RHR read: oldest character, removed; 0 if empty."
+    fn read_rhr(&mut self) -> u8 {
+        let w = self.w;
+        self.quiet = w.pick(0, QuietRead, self.quiet);
+        self.overrun &= !w.has(RhrClearsOverrun);
+        if w.has(RhrStays) && self.received.len() == 1 {
+            return self.received[0].0;
+        }
+        self.take().unwrap_or(w.pick(0, EmptyReadsFf, 0xFF))
+    }
+
+    fn lsr(&self) -> u8 {
+        let w = self.w;
+        let shown = w.pick(self.received.front(), LsrNewest, self.received.back());
+        let mark = shown.map_or(0, |&(_, mark)| mark);
+        let mark = w.pick(mark, LsrMarksTurned, mark.reverse_bits() >> 5);
+        let empty = self.waiting.is_empty();
+        let idle = empty && self.shift.is_none();
+        // "bit 0 queue not empty; 1 overrun ...; 4:2 marks of the oldest (break, framing, parity); 5 transmit
+        // queue empty; 6 that and shift register empty; 7 some queued mark not 0"
+        u8::from(!self.received.is_empty())
+            | u8::from(self.overrun) << 1
+            | mark << 2
+            | u8::from(w.pick(empty, LsrFiveShift, idle)) << 5
+            | u8::from(w.pick(idle, LsrSixQueue, empty)) << 6
+            | u8::from(self.some_mark()) << 7
+    }
+
+    #[inline]
+    fn some_mark(&self) -> bool {
+        if self.w.has(LsrSevenOldest) {
+            return self.oldest_mark();
+        }
+        if self.w.has(LsrSevenNinth) && bit(self.efcr, 0) {
+            return self.received.iter().any(|&(_, mark)| mark & !NINTH != 0);
+        }
+        self.marked != 0
+    }
+
+    fn oldest_mark(&self) -> bool {
+        self.received.front().is_some_and(|&(_, mark)| mark != 0)
+    }
+
+    // Transmit side.
+
+    #[inline]
+    fn spaces(&self) -> usize {
+        self.transmit_room() - self.waiting.len()
+    }
+
+    #[inline]
+    fn transmit_room(&self) -> usize {
+        let room = self.w.pick(ROOM, TransmitRoomShort, ROOM - 1);
+        if self.w.has(TransmitRoomOne) && !bit(self.fcr, 0) { 1 } else { room }
+    }
+
+    /// "THR write to a full queue loses the byte."
+    fn write_thr(&mut self, byte: u8) {
+        let byte = self.w.pick(byte, CutAtWrite, self.cut(byte));
+        if self.waiting.len() < self.transmit_room() {
+            self.waiting.push_back(byte);
+        } else if self.w.has(TransmitOldestLost) {
+            self.waiting.pop_front();
+            self.waiting.push_back(byte);
+        }
+    }
+
+    /// "a held character leaves, cut to the word length; then the oldest is loaded if there is one, EFCR 2 is
+    /// clear, and EFR 7 is clear or CTS is asserted"
+    fn slot(&mut self) -> u32 {
+        let w = self.w;
+        let enabled = !bit(self.efcr, 2);
+        let clear = w.pick(!bit(self.efr, 7), CtsAlways, false) || self.pins & CTS != 0;
+        if w.has(DisabledHolds) && !enabled || w.has(CtsHolds) && !clear {
+            return NONE_LEFT;
+        }
+        // "Their bits are stored as below without other effect. The divisor doesn't affect events."
+        if w.has(BreakActs) && bit(self.lcr, 6)
+            || w.has(SleepActs) && bit(self.ier, 4)
+            || w.has(DivisorActs) && self.dll | self.dlh == 0
+        {
+            return NONE_LEFT;
+        }
+        let loads = (enabled || w.has(DisabledLoads)) && (clear || w.has(CtsIgnored));
+        if w.has(LoadBeforeLeave) && self.shift.is_none() && loads {
+            self.shift = self.waiting.pop_front();
+        }
+        let left = self.shift.take();
+        if loads {
+            self.shift = self.waiting.pop_front();
+            if w.has(CutAtLoad) {
+                self.shift = self.shift.map(|byte| self.cut(byte));
+            }
+        }
+        left.map_or(NONE_LEFT, |byte| u32::from(w.pick(self.cut(byte), SlotUncut, byte)))
+    }
+
+    // Trigger levels.
+
+    #[inline]
+    fn tlr(&self) -> (usize, usize) {
+        let tlr = if self.w.has(GuardStopsLevels) && !bit(self.efr, 4) { 0 } else { self.tlr };
+        let (high, low) = (usize::from(tlr >> 4), usize::from(tlr & 15));
+        self.w.pick((high, low), TlrExchanged, (low, high))
+    }
+
+    #[inline]
+    fn fcr_level(&self) -> usize {
+        let at = usize::from(self.fcr >> 6);
+        if self.w.has(ReceiveTable) && at == 2 { 32 } else { RECEIVE_LEVELS[at] }
+    }
+
+    /// "Receive: 4 × TLR 7:4 if not 0, else by FCR 7:6".
+    #[inline]
+    fn receive_level(&self) -> usize {
+        match self.tlr().0 {
+            0 => self.fcr_level(),
+            high => self.w.pick(4, TlrEights, 8) * high,
+        }
+    }
+
+    /// "Transmit: 4 × TLR 3:0 if not 0, else by FCR 5:4".
+    #[inline]
+    fn transmit_level(&self) -> usize {
+        let at = usize::from(self.fcr >> 4 & 3);
+        match self.w.pick(self.tlr().1, TlrTransmitIgnored, 0) {
+            0 if self.w.has(TransmitTable) && at == 3 => 60,
+            0 => TRANSMIT_LEVELS[at],
+            low => 4 * low,
+        }
+    }
+
+    /// "Halt is 4 × TCR 3:0, resume 4 × TCR 7:4; if TCR is 0, halt is the FCR 7:6 level and resume 0, 8, 16 or
+    /// 56 in step".
+    #[inline]
+    fn halt_and_resume(&self) -> (usize, usize) {
+        let w = self.w;
+        let at = usize::from(self.fcr >> 6);
+        let default_halt = if w.has(HaltByTlr) { self.receive_level() } else { self.fcr_level() };
+        let default_resume = if w.has(ResumeTable) && at == 3 { 60 } else { RESUME_LEVELS[at] };
+        if self.tcr == 0 {
+            return (default_halt, default_resume);
+        }
+        let tcr = w.pick(self.tcr, TcrExchanged, self.tcr.rotate_left(4));
+        let halt = 4 * usize::from(tcr & 15);
+        let resume = 4 * usize::from(tcr >> 4);
+        (
+            if w.has(HaltZeroDefault) && halt == 0 { default_halt } else { halt },
+            if w.has(ResumeZeroDefault) && resume == 0 { default_resume } else { resume },
+        )
+    }
+
+    /// "with EFCR 4, asserted exactly while the transmit queue or shift register holds something, turned over
+    /// by EFCR 5; else with EFR 6, the latch; else MCR 1"
+    #[inline]
+    fn rts(&self) -> bool {
+        let w = self.w;
+        let turned = bit(self.efcr, 5) && !w.has(RtsUnturned);
+        if bit(self.efcr, 4) && !(w.has(RtsLatchFirst) && bit(self.efr, 6)) {
+            let sending = !self.waiting.is_empty() || self.shift.is_some() && !w.has(RtsQueueOnly);
+            return sending != turned;
+        }
+        let rts = if bit(self.efr, 6) { self.latch } else { bit(self.mcr, w.pick(1, RtsByMcrZero, 0)) };
+        rts != (turned && w.has(RtsTurnedAlways))
+    }
+
+    // Interrupts.
+
+    /// "The THR condition is an empty queue (FCR 0 clear) or spaces ≥ level."
+    #[inline]
+    fn thr_condition(&self) -> bool {
+        let w = self.w;
+        if w.pick(w.pick(bit(self.fcr, 0), ThrByLevel, true), ThrByEmpty, false) {
+            let (spaces, level) = (self.spaces(), self.transmit_level());
+            w.pick(spaces >= level, TransmitAbove, spaces > level)
+        } else {
+            self.waiting.is_empty()
+        }
+    }
+
+    /// The code of the highest interrupt pending, or 01.
+    fn code(&self) -> u8 {
+        let w = self.w;
+        let fifo = bit(self.fcr, 0);
+        let ier = if w.has(GuardStopsActing) && !bit(self.efr, 4) { self.ier & 15 } else { self.ier };
+        let count = self.received.len();
+        // "IER 2 and (overrun or LSR 7)"
+        let line = || {
+            let marked = if w.has(LineByOldest) { self.oldest_mark() } else { self.some_mark() };
+            bit(ier, 2) && (self.overrun && !w.has(LineWithoutOverrun) || marked)
+        };
+        // "IER 0, FCR 0, queue not empty, quiet count 4"
+        let timeout = || {
+            bit(ier, 0)
+                && (fifo || w.has(TimeoutWithoutFifo))
+                && (count != 0 || w.has(TimeoutEmpty))
+                && self.quiet >= w.pick(QUIET, TimeoutThree, 3)
+        };
+        // "IER 0 and count ≥ level (1 if FCR 0 clear)"
+        let level = || {
+            let level = if fifo || w.has(FifoOffLevel) { self.receive_level() } else { 1 };
+            bit(ier, 0) && w.pick(count >= level, ReceiveAbove, count > level)
+        };
+        // "IER 1 and THR flag"
+        let thr = || bit(ier, 1) && self.thr_flag;
+        // "IER 3 and a bit of MSR 3:0 (bit 0 not counted with EFR 7)"
+        let modem = || {
+            let uncounted = w.pick(bit(self.efr, 7), ModemCountsCts, false) || w.has(ModemLeavesCts);
+            bit(ier, 3) && self.changes & if uncounted { 0x0E } else { 0x0F } != 0
+        };
+        // "IER 5 and special flag"
+        let special = || bit(ier, w.pick(5, SpecialByFour, 4)) && self.special_flag;
+        // "IER 7 and CTS flag, or IER 6 and RTS flag"
+        let flow = || {
+            let (cts, rts) = w.pick((7, 6), FlowExchanged, (6, 7));
+            bit(ier, cts) && self.cts_flag || bit(ier, rts) && self.rts_flag
+        };
+        // A wrong rank: the lower of two neighbours is asked first.
+        if w.has(RankTimeout) && timeout() {
+            0x0C
+        } else if line() {
+            0x06
+        } else if w.has(RankLevel) && level() {
+            0x04
+        } else if timeout() {
+            0x0C
+        } else if w.has(RankThr) && thr() {
+            0x02
+        } else if level() {
+            0x04
+        } else if w.has(RankModem) && modem() {
+            0x00
+        } else if thr() {
+            0x02
+        } else if w.has(RankSpecial) && special() {
+            0x10
+        } else if modem() {
+            0x00
+        } else if w.has(RankFlow) && flow() {
+            0x20
+        } else if special() {
+            0x10
+        } else if flow() {
+            0x20
+        } else {
+            0x01
+        }
+    }
+
+    /// "IIR is C0 (if FCR 0) plus the code, from the state before the read. Reading it clears the THR flag if
+    /// 02 was shown, the special flag if 10, CTS and RTS flags if 20."
+    fn read_iir(&mut self) -> u8 {
+        let w = self.w;
+        let code = self.code();
+        match code {
+            0x02 => self.thr_flag = w.pick(false, IirKeepsThr, self.thr_flag),
+            0x10 if w.has(IirWrongFlag) => (self.cts_flag, self.rts_flag) = (false, false),
+            0x10 => self.special_flag = w.pick(false, IirKeepsSpecial, self.special_flag),
+            0x20 => {
+                self.cts_flag = w.pick(false, IirKeepsCts, self.cts_flag);
+                self.rts_flag = w.pick(false, IirKeepsRts, self.rts_flag);
+            }
+            _ => {}
+        }
+        self.thr_flag &= !w.has(IirAlwaysClears);
+        let fifo = w.pick(w.pick(bit(self.fcr, 0), IirPlain, false), IirFull, true);
+        code | if fifo { 0xC0 } else { 0 }
+    }
+
+    fn set_pins(&mut self, pins: u8) {
+        let w = self.w;
+        // "MSR 3:0 are set by any change of the same pin"
+        let changed = w.pick(self.pins ^ pins, ChangeOff, self.pins & !pins);
+        let changed = w.pick(changed, ChangeRi, changed & !(pins & 4));
+        self.changes = w.pick(self.changes, ChangeLast, 0) | changed;
+        // "CTS going off sets the CTS flag unless EFR 7 is set."
+        let (from, to) = w.pick((self.pins, pins), CtsFlagOn, (pins, self.pins));
+        if from & !to & CTS != 0 && (!bit(self.efr, 7) || w.has(CtsFlagWithAuto)) {
+            self.cts_flag = true;
+        }
+        self.pins = pins;
+    }
+
+    /// "Quiet adds 1 up to 4".
+    fn quiet_time(&mut self) {
+        self.quiet = if self.quiet < QUIET { self.quiet + 1 } else { self.w.pick(QUIET, QuietTurns, 0) };
+    }
+}
+
+/// The device: two channels.
+pub struct Machine<S> {
+    w: S,
+    channels: [Channel<S>; 2],
+}
+
+impl Machine<Right> {
+    pub fn new() -> Model {
+        Machine::with(Right)
+    }
+}
+
+impl Default for Machine<Right> {
+    fn default() -> Model {
+        Model::new()
+    }
+}
+
+impl<S: Switch> Machine<S> {
+    pub fn with(w: S) -> Machine<S> {
+        Machine { w, channels: [Channel::new(w), Channel::new(w)] }
+    }
+
+    /// One event by its kind and operands, any numbers at all.
+    pub fn step(&mut self, kind: u64, x: u64, y: u64, z: u64) -> Answer {
+        match self.judged(kind, x, y, z) {
+            Ok(reply) => Answer::Reply(reply),
+            Err(refusal) => Answer::Refused(refusal),
+        }
+    }
+
+    /// "judge 3 and then 4 to 8; operands that the kind lacks aren't looked at"
+    fn judged(&mut self, kind: u64, mut x: u64, mut y: u64, mut z: u64) -> Result<u32, u32> {
+        let w = self.w;
+        if w.has(HugeCut) {
+            (x, y, z) = (x & 0xFFFF_FFFF, y & 0xFFFF_FFFF, z & 0xFFFF_FFFF);
+        }
+        let channel = |n| up_to(1, n, 4).map(usize::from);
+        let address = |n| up_to(15, n, 5);
+        let byte = |n| up_to(255, n, 6);
+        let mark = |n| up_to(7, n, 7);
+        let pins = |n| up_to(w.pick(15, PinsSixteen, 16), n, 8);
+        match kind {
+            0 => {
+                if w.has(AddressFirst) {
+                    address(y)?;
+                }
+                let (channel, address, byte) = (channel(x)?, address(y)?, byte(z)?);
+                Ok(self.write(channel, address, byte))
+            }
+            1 => {
+                if w.has(ReadByteJudged) {
+                    byte(z)?;
+                }
+                let (channel, address) = (channel(x)?, address(y)?);
+                Ok(self.channels[channel].event(|c| u32::from(c.read(address))))
+            }
+            2 => {
+                if w.has(MarkFirst) {
+                    channel(x)?;
+                    mark(z)?;
+                }
+                let (channel, byte, mark) = (channel(x)?, byte(y)?, mark(z)?);
+                Ok(self.channels[channel].event(|c| c.arrival(byte, mark)))
+            }
+            3 => Ok(self.channels[channel(x)?].event(Channel::slot)),
+            4 => {
+                let (channel, pins) = (channel(x)?, pins(y)?);
+                Ok(self.channels[channel].event(|c| {
+                    c.set_pins(pins & 15);
+                    0
+                }))
+            }
+            5 => Ok(self.channels[channel(x)?].event(|c| {
+                c.quiet_time();
+                0
+            })),
+            6 => {
+                self.reset();
+                Ok(0)
+            }
+            // "1 if either channel has an interrupt pending, else 0"
+            7 => {
+                let looked = &self.channels[..w.pick(2, LookOne, 1)];
+                Ok(u32::from(looked.iter().any(|c| c.code() != 0x01)))
+            }
+            8 if w.has(KindEightRefused) => Err(3),
+            // "1 if asserted, else 0"
+            8 => Ok(u32::from(self.channels[channel(x)?].rts())),
+            _ => Err(3),
+        }
+    }
+
+    fn write(&mut self, channel: usize, address: u8, byte: u8) -> u32 {
+        let w = self.w;
+        let c = &mut self.channels[channel];
+        let open = c.window() == Window::General || w.has(IoControlAlways);
+        // "writing bit 3 resets the device"; "a reset is the act only, on both channels"
+        if address == 0x0E && open && (bit(byte, 3) || w.has(IoControlAnyBit) && byte != 0) {
+            let before = (c.rts(), c.latch, c.thr_condition());
+            if w.has(IoControlOne) {
+                c.reset();
+            } else {
+                self.reset();
+            }
+            if w.has(ResetSettles) {
+                self.channels[channel].settle(before.0, before.1, before.2);
+            }
+            return 0;
+        }
+        c.event(|c| {
+            c.write(address, byte);
+            0
+        });
+        if w.has(CommonSpr) {
+            self.channels[1 - channel].spr = self.channels[channel].spr;
+        }
+        0
+    }
+
+    fn reset(&mut self) {
+        let reset = self.w.pick(2, ResetOneChannel, 1);
+        self.channels[..reset].iter_mut().for_each(Channel::reset);
+    }
+
+    /// The addresses of a channel whose reads change nothing now.
+    pub fn still_addresses(&self, channel: usize) -> &'static [u64] {
+        let c = &self.channels[channel];
+        match c.window() {
+            Window::General if c.levels_open() => &[1, 3, 4, 6, 7, 8, 9, 10, 11, 12, 13, 14, 15],
+            Window::General => &[1, 3, 4, 7, 8, 9, 10, 11, 12, 13, 14, 15],
+            _ => &[0, 1, 2, 3, 4, 5, 6, 7, 8, 9, 10, 11, 12, 13, 14, 15],
+        }
+    }
+}
+
+#[cfg(test)]
+mod tests {
+    use super::*;
+
+    fn replies(events: &[[u64; 4]]) -> Vec<u32> {
+        let mut model = Model::new();
+        let answers = events.iter().map(|&[kind, x, y, z]| model.step(kind, x, y, z));
+        answers
+            .map(|answer| match answer {
+                Answer::Reply(n) => n,
+                Answer::Refused(n) => 1000 + n,
+            })
+            .collect()
+    }
+
+    #[test]
+    fn the_event_file_of_the_document() {
+        let events = [
+            [0, 0, 3, 3],
+            [0, 0, 2, 1],
+            [2, 0, 0x41, 1],
+            [0, 0, 1, 4],
+            [1, 0, 2, 0],
+            [1, 0, 5, 0],
+            [1, 0, 0, 0],
+            [1, 0, 5, 0],
+            [1, 2, 5, 0],
+            [9, 0, 0, 0],
+        ];
+        assert_eq!(replies(&events), [0, 0, 0, 0, 198, 229, 65, 96, 1004, 1003]);
+    }
+
+    #[test]
+    fn reset_and_thr_interrupt() {
+        assert_eq!(replies(&[[6, 0, 0, 0], [1, 0, 2, 0]]), [0, 1]);
+        assert_eq!(replies(&[[6, 0, 0, 0], [0, 0, 1, 2], [1, 0, 2, 0], [1, 0, 2, 0]]), [0, 0, 2, 1]);
+    }
+
+    #[test]
+    fn rooms() {
+        let mut events = vec![[0, 0, 2, 1]];
+        events.extend([[2, 0, 0x41, 0]; 65]);
+        assert_eq!(replies(&events)[64..], [0, 1]);
+        assert_eq!(replies(&[[2, 0, 0x41, 0]; 2]), [0, 1]);
+    }
+
+    #[test]
+    fn addresses() {
+        let auto = [[0, 0, 3, 0xBF], [0, 0, 2, 0x20], [0, 0, 7, 0x12], [0, 0, 3, 3], [0, 0, 15, 3]];
+        let with = |byte| replies(&[&auto[..], &[[2, 0, byte, 1], [1, 0, 15, 0]]].concat())[5..].to_vec();
+        assert_eq!(with(0x12), [0, 1]);
+        assert_eq!(with(0x13), [3, 3]);
+    }
+
+    #[test]
+    fn marks_and_windows() {
+        let events = [[0, 0, 2, 1], [2, 0, 1, 0], [2, 0, 2, 2], [1, 0, 5, 0], [0, 0, 3, 0xBF], [1, 0, 0, 0]];
+        assert_eq!(replies(&events), [0, 0, 0, 0xE1, 0, 0]);
+    }
+}
