@@ -25,6 +25,7 @@ use Rattle.device.specs.declared.effect.Effect.the-variants as effect
 use Rattle.device.specs.declared.device.Device.{Device}
 use Rattle.device.specs.declared.device.Answer.the-variants as answer
 use Rattle.device.specs.Effects.{sideOf, resetsDevice, writeEffect, readEffect, effectOf}
+use Rattle.device.specs.Lent.{Advanced}
 use Rattle.device.specs.Device.{WellFormed, channelAt, withChannel, settingsAt, touchedAt, resetDevice, newDevice, effected, stepOf, answeredOf}
 
 -- ---- what an event in range brings is in range
@@ -98,6 +99,10 @@ pub well-formed-answered : (d : Device) (m : Made) → MadeIn m → WellFormed d
 unfolding answeredOf
 well-formed-answered d (made.Event e) range ok = well-formed-step d e range ok
 well-formed-answered d (made.Refused r) range ok = ok
+
+-- and a lent one too
+pub well-formed-advanced : (d after : Device) (kind x y z number : ℕ) → WellFormed d → Advanced d (eventOf kind x y z) after number → WellFormed after
+well-formed-advanced d after kind x y z number ok done = rw (done .1) (well-formed-answered d (eventOf kind x y z) (made-in kind x y z) ok)
 
 -- ---- an event of one channel leaves the other channel's record exactly as it was, save a reset
 abbrev pub otherSide : Side → Side

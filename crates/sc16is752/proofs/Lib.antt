@@ -1,0 +1,2 @@
+-- That every contract determines its result.
+pub mod Determined
