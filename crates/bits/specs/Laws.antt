@@ -17,6 +17,9 @@ unfolding oneIf
 one-if-in true e = omega arith
 one-if-in false e = omega arith
 
+pub flag-in : (condition : Bool) → oneIf condition ≤ 1
+flag-in condition = one-if-in condition refl
+
 -- ---- what stands above a place of a byte
 module _ (byte place : ℕ) (fits : byte < 256) where
   nothing-past : 8 ≤ place → byte / 2 ^ place ≡ 0

@@ -109,7 +109,7 @@ abbrev pub otherSide : Side → Side
 otherSide side.A = side.B
 otherSide side.B = side.A
 
-other-kept : (d : Device) (at : Side) (ch : Channel) → channelAt (withChannel d at ch) (otherSide at) ≡ channelAt d (otherSide at)
+pub other-kept : (d : Device) (at : Side) (ch : Channel) → channelAt (withChannel d at ch) (otherSide at) ≡ channelAt d (otherSide at)
 other-kept d side.A ch = refl
 other-kept d side.B ch = refl
 

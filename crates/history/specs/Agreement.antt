@@ -25,7 +25,7 @@ use Rattle.device.specs.declared.device.Device.{Device}
 use Rattle.device.specs.Effects.{sideOf, effectOf}
 use Rattle.device.specs.Device as device
 use Rattle.device.specs.Device.{channelAt, withChannel, settingsAt, touchedAt, resetDevice, newDevice, effected, stepOf, answeredOf}
-use Rattle.device.specs.Laws.{otherSide, well-formed-new, well-formed-at, well-formed-answered}
+use Rattle.device.specs.Laws.{otherSide, other-kept, well-formed-new, well-formed-at, well-formed-answered}
 use Rattle.history.specs.Judge.{Line, lineAfter, Ledger, settingsOf, freshLedger, ledgerAfter, isSide, judgedBy, judgedFrom, judgement}
 use Rattle.history.specs.Demand3.{ranFrom, ran, AllIn}
 use Rattle.history.specs.Line.{Holds, holds-acted}
@@ -65,10 +65,6 @@ pub seen-own : (d : Device) (w : Side) (ch : Channel) → channelAt (withChannel
 seen-own d side.A ch = refl
 seen-own d side.B ch = refl
 
-seen-other : (d : Device) (w : Side) (ch : Channel) → channelAt (withChannel d w ch) (otherSide w) ≡ channelAt d (otherSide w)
-seen-other d side.A ch = refl
-seen-other d side.B ch = refl
-
 pub seen-from-other : (d : Device) (w : Side) (ch : Channel) → channelAt (withChannel d (otherSide w) ch) w ≡ channelAt d w
 seen-from-other d side.A ch = refl
 seen-from-other d side.B ch = refl
@@ -89,7 +85,7 @@ module _ (w : Side) (d : Device) (l : Ledger) (ok : device.WellFormed d) (h : Ag
   agrees-touched true t =
       record {
         own = rw (seen-own d w (touchedOf (channelAt d w) t .channel)) (touched-settings (channelAt d w) (l .own) t (h .own));
-        other = rw (seen-other d w (touchedOf (channelAt d w) t .channel)) (h .other);
+        other = rw (other-kept d w (touchedOf (channelAt d w) t .channel)) (h .other);
         holds = rw (seen-own d w (touchedOf (channelAt d w) t .channel)) (touched-holds (channelAt d w) (l .own) t (l .line) (h .own) (well-formed-at d w ok) (h .holds));
       }
   agrees-touched false t =

@@ -6,7 +6,7 @@ use mathlib.Core.Bool.{Bool, true, false, not}
 use lib.ListN.{length, getD}
 use lib.Dec.{eqb, ltb}
 use Rattle.bits.specs.Bits.{oneIf, partAt, bitAt}
-use Rattle.bits.specs.Laws.{one-if-in}
+use Rattle.bits.specs.Laws.{flag-in}
 use Rattle.queue.specs.declared.Character.{Character}
 use Rattle.queue.specs.declared.Queue.{Queue}
 use Rattle.queue.specs.Queue.{none, actedOn}
@@ -40,9 +40,6 @@ lsr-parts : (a b m c d e : ℕ) → a ≤ 1 → b ≤ 1 → m < 8 → c ≤ 1 �
     × ((a + b * 2 + m * 4 + c * 32 + d * 64 + e * 128) / 1 % 2 ≡ a)
     × ((a + b * 2 + m * 4 + c * 32 + d * 64 + e * 128) / 128 % 2 ≡ e)
 lsr-parts a b m c d e ha hb hm hc hd he = omega arith
-
-flag-in : (condition : Bool) → oneIf condition ≤ 1
-flag-in condition = one-if-in condition refl
 
 flag-set : (condition : Bool) → eqb (oneIf condition) 1 ≡ condition
 unfolding oneIf

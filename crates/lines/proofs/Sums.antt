@@ -1,11 +1,10 @@
 -- LSR, IIR and MSR joined from their parts are the sums that the definitions state.
 use Prim.Native.Nat.{ℕ, _+_, _*_, _<_, _≤_}
 use native.Mathlib.Omega.{arith}
-use mathlib.Core.Path.{_≡_, refl}
-use mathlib.Core.Bool.{Bool}
+use mathlib.Core.Path.{_≡_}
 use Rattle.bits.specs.Choice.{pick, pick-by}
 use Rattle.bits.specs.Bits.{oneIf, bitAt, joinedAt}
-use Rattle.bits.specs.Laws.{joined-sum, one-if-in}
+use Rattle.bits.specs.Laws.{flag-in, joined-sum}
 use Rattle.registers.specs.declared.settings.Settings.{Settings}
 use Rattle.lines.specs.declared.receive.Status.{Status}
 use Rattle.lines.specs.declared.modem.Modem.{Modem}
@@ -25,9 +24,6 @@ six-parts a b m c d e ha hb hm hc hd he =
       joined-sum (a + b * 2 + m * 4 + c * 32) 6 d (omega arith) (omega arith),
       joined-sum (a + b * 2 + m * 4 + c * 32 + d * 64) 7 e (omega arith) (omega arith),
     )
-
-flag-in : (condition : Bool) → oneIf condition ≤ 1
-flag-in condition = one-if-in condition refl
 
 pub lsr-sum : (l : Status) → l .mark < 8
     → joinedAt (joinedAt (joinedAt (joinedAt (joinedAt (oneIf (l .ready)) 1 (oneIf (l .overrun))) 2 (l .mark)) 5 (oneIf (l .sent))) 6 (oneIf (l .idle))) 7 (oneIf (l .error))

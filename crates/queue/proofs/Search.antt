@@ -8,9 +8,7 @@ use mathlib.Core.List.{List}
 use lib.ListN.{getD}
 use borrow.Author.Tests.{ne-eqb}
 use Rattle.queue.specs.Queue.{markedFrom}
-
-suc-sub-one : (n : ℕ) → suc n - 1 ≡ n
-suc-sub-one n = omega arith
+use Rattle.queue.specs.Laws.{suc-sub-one}
 
 marked-here : (marks : List ℕ) (s n : ℕ) → 0 < n → (getD marks (s % 64) 0 ≡ 0 → ⊥) → markedFrom marks s n ≡ true
 unfolding markedFrom

@@ -78,7 +78,7 @@ unfolding addedTo
 added-kept q c room = rw length-items
 
 -- ---- a taken character was the first, and the oldest is the head
-suc-sub-one : (n : ℕ) → suc n - 1 ≡ n
+pub suc-sub-one : (n : ℕ) → suc n - 1 ≡ n
 suc-sub-one n = omega arith
 
 from-round : (bytes marks : List ℕ) (s t n : ℕ) → s % 64 ≡ t % 64 → itemsFrom bytes marks s n ≡ itemsFrom bytes marks t n
