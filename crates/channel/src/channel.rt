@@ -1,4 +1,6 @@
 // The record of a channel, and what an event that touches it makes of it.
+use crate::change::Change;
+use crate::change::Settled;
 use lines::Flags;
 use lines::Interrupt;
 use lines::Line;
@@ -19,6 +21,7 @@ use registers::Touch;
 ghost use mathlib.Core.Path.{_≡_};
 ghost use Prim.Native.Nat.{_≤_};
 ghost use Rattle.channel.specs.Channel.{WellFormed, pendingAt, shownBy, statusOf, readOf, replyOf, rtsAsserted, momentOf, touchedOf, resetOf, blankChannel};
+ghost use Rattle.channel.specs.Change.{changeOf, settlesTo};
 
 #[repr(C)]
 pub struct Channel {
@@ -309,6 +312,52 @@ impl Channel {
         Touched {
             channel: channel,
             reply: self.reply(shown, kept, touch),
+        }
+    }
+
+    pub fn change(self, touch: Touch) -> Change
+        requires { ⌜ WellFormed self ⌝ }
+        ensures { λ r. ⌜ r ≡ changeOf self touch ⌝ }
+    {
+        let settings = self.settings;
+        let rx = self.rx;
+        let tx = self.tx;
+        let line = self.line;
+        let shift = self.shift;
+        let modem = self.modem;
+        let flags = self.flags;
+        let before = moment(settings, self.latch, shift, tx.count);
+        let cts = modem.cts();
+        let shown = self.shown(touch);
+        let received = rx.moved(settings.receive_act(touch), settings.room());
+        let sent = tx.moved(settings.transmit_act(cts, touch), 64);
+        let kept = received.kept;
+        let oldest = tx.oldest();
+        Change {
+            settings: settings.touched(touch),
+            rx: received,
+            tx: sent,
+            shift: shift.after(settings, cts, tx.count, oldest.byte, touch),
+            line: line.after(settings, kept, touch),
+            flags: flags.after(settings, modem, shown, touch),
+            modem: modem.after(touch),
+            before: before,
+            reply: self.reply(shown, kept, touch) as u32,
+        }
+    }
+
+    // After the act, by RTS and the THR condition before it.
+    pub fn settles(self, before: Moment) -> Settled
+        requires { ⌜ self .tx .count ≤ 64 ⌝ }
+        ensures { λ r. ⌜ r ≡ settlesTo self before ⌝ }
+    {
+        let settings = self.settings;
+        let flags = self.flags;
+        let latch = latch_after(settings, self.rx.count, self.latch);
+        let now = moment(settings, latch, self.shift, self.tx.count);
+        Settled {
+            flags: flags.settled(before, now),
+            latch: latch,
         }
     }
 }

@@ -17,6 +17,8 @@ use Rattle.queue.proofs.Queue.clear.Reads as queue-clear
 use Rattle.queue.proofs.Queue.oldest.Reads as queue-oldest
 use Rattle.queue.proofs.Queue.any_mark.Reads as queue-any-mark
 use Rattle.queue.proofs.Queue.act.Reads as queue-act
+use Rattle.queue.proofs.Queue.moved.Reads as queue-moved
+use Rattle.queue.proofs.Queue.placed.Reads as queue-placed
 use Rattle.event.proofs.event_of.Reads as event-event-of
 use Rattle.event.proofs.events.Event.judged.Reads as event-event-judged
 use Rattle.event.proofs.read_at.Reads as event-read-at
@@ -67,11 +69,14 @@ use Rattle.channel.proofs.channel.Channel.reset.Reads as channel-reset
 use Rattle.channel.proofs.channel.Channel.pending.Reads as channel-pending
 use Rattle.channel.proofs.channel.Channel.rts.Reads as channel-rts
 use Rattle.channel.proofs.channel.Channel.touched.Reads as channel-touched
+use Rattle.channel.proofs.channel.Channel.change.Reads as channel-change
+use Rattle.channel.proofs.channel.Channel.settles.Reads as channel-settles
 use Rattle.device.proofs.device.Device.new.Reads as device-new
 use Rattle.device.proofs.device.Device.reset.Reads as device-reset
 use Rattle.device.proofs.device.Device.step.Reads as device-step
 use Rattle.device.proofs.device.Device.step_numbers.Reads as device-step-numbers
-use Rattle.device.proofs.device.Device.step_numbered.Reads as device-step-numbered
+use Rattle.device.proofs.device.Device.elsewhere.Reads as device-elsewhere
+use Rattle.device.proofs.side.Side.is_a.Reads as device-side-is-a
 use Rattle.device.proofs.device.Answer.number.Reads as device-answer-number
 use Rattle.event.specs.declared.events.Made.{Made}
 use Rattle.device.specs.declared.device.Device.{Device}
@@ -125,6 +130,12 @@ queue-any-mark-determined = by-equation (λ a r s h. h)
 
 pub queue-act-determined : Determined (queue-act.Post tt)
 queue-act-determined = by-equation (λ a r s h. h)
+
+pub queue-moved-determined : Determined (queue-moved.Post tt)
+queue-moved-determined = by-equation (λ a r s h. h)
+
+pub queue-placed-determined : Determined (queue-placed.Post tt)
+queue-placed-determined = by-equation (λ a r s h. h)
 
 pub event-event-of-determined : Determined (event-event-of.Post tt)
 event-event-of-determined = by-equation (λ a r s h. h)
@@ -277,6 +288,12 @@ channel-rts-determined = by-equation (λ a r s h. h)
 pub channel-touched-determined : Determined (channel-touched.Post tt)
 channel-touched-determined = by-equation (λ a r s h. h)
 
+pub channel-change-determined : Determined (channel-change.Post tt)
+channel-change-determined = by-equation (λ a r s h. h)
+
+pub channel-settles-determined : Determined (channel-settles.Post tt)
+channel-settles-determined = by-equation (λ a r s h. h)
+
 pub device-new-determined : Determined (device-new.Post tt)
 device-new-determined = by-equation (λ a r s h. h)
 
@@ -289,8 +306,11 @@ device-step-determined = by-equation (λ a r s h. h)
 pub device-step-numbers-determined : Determined (device-step-numbers.Post tt)
 device-step-numbers-determined = by-equation (λ a r s h. h)
 
-pub device-step-numbered-determined : Determined (device-step-numbered.Post tt)
-device-step-numbered-determined = by-equation (λ a r s h. h)
+pub device-elsewhere-determined : Determined (device-elsewhere.Post tt)
+device-elsewhere-determined = by-equation (λ a r s h. h)
+
+pub device-side-is-a-determined : Determined (device-side-is-a.Post tt)
+device-side-is-a-determined = by-equation (λ a r s h. h)
 
 pub device-answer-number-determined : Determined (device-answer-number.Post tt)
 device-answer-number-determined = by-equation (λ a r s h. h)

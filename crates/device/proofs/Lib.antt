@@ -1,2 +1,3 @@
--- That every contract determines its result.
+-- That every contract determines its result, and the lending of a field.
 pub mod Determined
+mod Lending

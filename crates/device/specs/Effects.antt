@@ -1,6 +1,6 @@
 -- What an event does, by the registers of the channel that it names.
 use Prim.Native.Nat.{ℕ}
-use mathlib.Core.Bool.{Bool, _&&_}
+use mathlib.Core.Bool.{Bool, true, false, _&&_}
 use lib.Dec.{eqb}
 use Rattle.bits.specs.Choice.{pick}
 use Rattle.bits.specs.Bits.{bitAt}
@@ -15,6 +15,10 @@ use Rattle.device.specs.declared.side.Side.{Side}
 use Rattle.device.specs.declared.side.Side.the-variants as side
 use Rattle.device.specs.declared.effect.Effect.{Effect}
 use Rattle.device.specs.declared.effect.Effect.the-variants as effect
+
+unfoldable pub isA : Side → Bool
+isA side.A = true
+isA side.B = false
 
 -- the channel of a number in range: 0 or 1
 unfoldable pub sideNumbered : ℕ → Side

@@ -29,12 +29,12 @@ use Rattle.device.specs.Lent.{Advanced}
 use Rattle.device.specs.Device.{WellFormed, channelAt, withChannel, settingsAt, touchedAt, resetDevice, newDevice, effected, stepOf, answeredOf}
 
 -- ---- what an event in range brings is in range
-abbrev EffectIn : Effect → Type 0
+abbrev pub EffectIn : Effect → Type 0
 EffectIn (effect.Touch t) = TouchIn t
 EffectIn effect.Reset = Unit {0}
 EffectIn effect.Nothing = Unit {0}
 
-effect-in : (s : Settings) (e : Event) → InRange e → EffectIn (effectOf s e)
+pub effect-in : (s : Settings) (e : Event) → InRange e → EffectIn (effectOf s e)
 unfolding effectOf writeEffect readEffect
 effect-in s (event.Write channel address byte) range =
     pick-by EffectIn (resetsDevice (registerAt s address) byte) (λ _. tt)

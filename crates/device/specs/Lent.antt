@@ -6,16 +6,12 @@ use Rattle.event.specs.Refusals.{refusalNumber}
 use Rattle.device.specs.declared.device.Device.{Device}
 use Rattle.device.specs.declared.device.Answer.{Answer}
 use Rattle.device.specs.declared.device.Answer.the-variants as answer
-use Rattle.device.specs.declared.lent.Numbered.{Numbered}
 use Rattle.device.specs.Device.{answeredOf}
 
 -- the reply, or 512 and the refusal number
 unfoldable pub answerNumber : Answer → ℕ
 answerNumber (answer.Reply n) = n
 answerNumber (answer.Refused r) = 512 + refusalNumber r
-
-abbrev pub numberedOf : Device → Made → Numbered
-numberedOf d m = record { device = answeredOf d m .device; number = answerNumber (answeredOf d m .answer) }
 
 -- what an event does to a lent record, and the number that it is answered with
 abbrev pub Advanced : Device → Made → Device → ℕ → Type 0

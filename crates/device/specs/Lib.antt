@@ -2,4 +2,6 @@
 pub mod Effects
 pub mod Device
 pub mod Lent
+pub mod Course
 pub mod Laws
+pub mod InParts

@@ -1,4 +1,6 @@
 // The device record, new and reset, and its step by value.
+use crate::course::Gave;
+use crate::course::resets_all;
 use crate::effect::Effect;
 use crate::effect::effect_at;
 use crate::side::Side;
@@ -14,6 +16,7 @@ use registers::Touch;
 ghost use mathlib.Core.Path.{_≡_};
 ghost use Rattle.event.specs.Events.{eventOf, judgedOf};
 ghost use Rattle.device.specs.Device.{WellFormed, settingsAt, touchedAt, rtsAt, irqAt, lookReply, resetDevice, newDevice, stepOf, answeredOf};
+ghost use Rattle.device.specs.Course.{elsewhereOf};
 
 #[repr(C)]
 pub struct Device {
@@ -211,5 +214,25 @@ impl Device {
         ensures { λ r. ⌜ r ≡ answeredOf self (eventOf kind x y z) ⌝ }
     {
         self.answered(event_of(kind, x, y, z))
+    }
+
+    // What is given for an event that touches neither channel.
+    pub fn elsewhere(self, made: Made) -> Gave
+        requires { ⌜ WellFormed self ⌝ }
+        ensures { λ r. ⌜ r ≡ elsewhereOf self made ⌝ }
+    {
+        match made {
+            Made::Event(event) => Gave {
+                resets: resets_all(event),
+                number: self.look(event) as u32,
+            },
+            Made::Refused(refusal) => {
+                let answer = Answer::Refused(refusal);
+                Gave {
+                    resets: false,
+                    number: answer.number(),
+                }
+            }
+        }
     }
 }

@@ -21,7 +21,7 @@ fn resets(register: Register, byte: u8) -> bool
     register.is(Register::IoControl) & bit(byte, 3)
 }
 
-fn write_effect(settings: Settings, address: u8, byte: u8) -> Effect
+pub fn write_effect(settings: Settings, address: u8, byte: u8) -> Effect
     ensures { λ r. ⌜ r ≡ writeEffect settings address byte ⌝ }
 {
     let register = settings.register(address);
@@ -37,7 +37,7 @@ fn write_effect(settings: Settings, address: u8, byte: u8) -> Effect
     })
 }
 
-fn read_effect(settings: Settings, address: u8) -> Effect
+pub fn read_effect(settings: Settings, address: u8) -> Effect
     ensures { λ r. ⌜ r ≡ readEffect settings address ⌝ }
 {
     let register = settings.register(address);

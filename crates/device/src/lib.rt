@@ -1,4 +1,5 @@
 // The chip: two channels, and the step that takes an event to a reply and the next record.
+mod course;
 mod device;
 mod effect;
 mod lent;
@@ -7,5 +8,4 @@ mod side;
 pub use device::Answer;
 pub use device::Device;
 pub use device::Outcome;
-pub use lent::Numbered;
 pub use side::Side;

@@ -1,11 +1,22 @@
 // The two channels by name.
 use event::Event;
 ghost use mathlib.Core.Path.{_≡_};
-ghost use Rattle.device.specs.Effects.{sideNumbered, sideOf};
+ghost use Rattle.device.specs.Effects.{isA, sideNumbered, sideOf};
 
 pub enum Side {
     A,
     B,
+}
+
+impl Side {
+    pub fn is_a(self) -> bool
+        ensures { λ r. ⌜ r ≡ isA self ⌝ }
+    {
+        match self {
+            Side::A => true,
+            Side::B => false,
+        }
+    }
 }
 
 fn numbered(channel: u8) -> Side

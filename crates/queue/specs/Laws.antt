@@ -2,19 +2,20 @@
 use Prim.Native.Nat.{ℕ, zero, suc, _+_, _-_, _%_, _<_, _≤_}
 use native.Mathlib.Numerals.{add-one}
 use native.Mathlib.Omega.{arith}
-use mathlib.Core.Path.{_≡_, refl, ap}
-use mathlib.Core.Bool.{Bool, true, false}
+use mathlib.Core.Path.{_≡_, refl, ap, subst}
+use mathlib.Core.Bool.{Bool, true, false, not}
 use mathlib.Core.List.{List, [], _∷_, _++_}
 use lib.ListN.{length, getD, set, drop, replicate, length-set}
 use lib.Seq.{getD-set-same, getD-set-other}
 use lib.Dec.{eqb, ltb}
 use borrow.Author.Tests.{ne-eqb, ltb-true, eqb-true, eqb-false}
 use Rattle.bits.specs.Choice.{pick, pick-by}
+use Rattle.bits.specs.Bits.{oneIf}
 use Rattle.queue.specs.declared.Character.{Character}
 use Rattle.queue.specs.declared.Queue.{Queue}
 use Rattle.queue.specs.declared.Act.{Act}
 use Rattle.queue.specs.declared.Act.the-variants as act
-use Rattle.queue.specs.Queue.{WellFormed, MarksBelow, none, emptyQueue, behind, addedTo, rest, takenFrom, clearedFrom, oldestOf, markedFrom, anyMarkOf, actedOn}
+use Rattle.queue.specs.Queue.{WellFormed, MarksBelow, none, emptyQueue, behind, addedTo, rest, takenFrom, clearedFrom, oldestOf, markedFrom, anyMarkOf, actedOn, movedBy, lyingAt, placedIn}
 use Rattle.queue.specs.List.{charAt, itemsFrom, items, someMark, listAfter}
 
 -- ---- the length is the count
@@ -227,6 +228,77 @@ well-formed-acted q (act.Add c) room ok r = well-formed-added q c room ok r
 well-formed-acted q act.Take room ok r = well-formed-taken q ok
 well-formed-acted q act.Clear room ok r = well-formed-cleared q ok
 well-formed-acted q act.Nothing room ok r = ok
+
+-- ---- an act in parts: where the characters lie, and then the place that it writes
+pub acted-kept : (q : Queue) (a : Act) (room : ℕ) → actedOn q a room .kept ≡ movedBy q a room .kept
+unfolding actedOn movedBy addedTo
+acted-kept q (act.Add c) room = refl
+acted-kept q act.Take room = refl
+acted-kept q act.Clear room = refl
+acted-kept q act.Nothing room = refl
+
+module _ (q : Queue) (room : ℕ) (ok : WellFormed q) where
+  add-in-parts : (c : Character)
+      → addedTo q c room .queue
+      ≡ pick (movedBy q (act.Add c) room .puts)
+      (placedIn (lyingAt q (movedBy q (act.Add c) room .start) (movedBy q (act.Add c) room .count)) (movedBy q (act.Add c) room .place) c)
+      (lyingAt q (movedBy q (act.Add c) room .start) (movedBy q (act.Add c) room .count))
+  unfolding addedTo movedBy placedIn behind oneIf
+  add-in-parts c = go (ltb (q .count) room)
+    where
+      go : (fewer : Bool)
+          → pick fewer (behind q c) q
+          ≡ pick fewer (placedIn (lyingAt q (q .start) (q .count + oneIf fewer)) ((q .start + q .count) % 64) c) (lyingAt q (q .start) (q .count + oneIf fewer))
+      go true = refl
+      go false =
+          let same : q .count + 0 ≡ q .count = omega arith in
+          rw same
+
+  take-in-parts : takenFrom q ≡ lyingAt q (movedBy q act.Take room .start) (movedBy q act.Take room .count)
+  unfolding takenFrom movedBy rest oneIf
+  take-in-parts = go (eqb (q .count) 0)
+    where
+      go : (empty : Bool) → pick empty q (rest q) ≡ lyingAt q ((q .start + oneIf (not empty)) % 64) (q .count - oneIf (not empty))
+      go true =
+          let start : (q .start + 0) % 64 ≡ q .start = omega (arith, ok .start-in) in
+          let count : q .count - 0 ≡ q .count = omega arith in
+          rw (start, count)
+      go false = refl
+
+  pub acted-in-parts : (a : Act)
+      → actedOn q a room .queue
+      ≡ pick (movedBy q a room .puts)
+      (placedIn (lyingAt q (movedBy q a room .start) (movedBy q a room .count)) (movedBy q a room .place) (movedBy q a room .character))
+      (lyingAt q (movedBy q a room .start) (movedBy q a room .count))
+  unfolding actedOn movedBy clearedFrom
+  acted-in-parts (act.Add c) = add-in-parts c
+  acted-in-parts act.Take = take-in-parts
+  acted-in-parts act.Clear = refl
+  acted-in-parts act.Nothing = refl
+
+-- a place that is written leaves the characters lying where they lie
+placed-lies : (puts : Bool) (q : Queue) (place : ℕ) (c : Character) → WellFormed (pick puts (placedIn q place c) q) → (q .start < 64) × (q .count ≤ 64)
+unfolding placedIn
+placed-lies true q place c ok = (ok .start-in, ok .count-in)
+placed-lies false q place c ok = (ok .start-in, ok .count-in)
+
+-- where the characters lie after an act is within the places
+pub lying-in : (q : Queue) (a : Act) (room : ℕ) → WellFormed q → room ≤ 64 → WellFormed (lyingAt q (movedBy q a room .start) (movedBy q a room .count))
+lying-in q a room ok r = record { start-in = lies .0; count-in = lies .1; bytes-64 = ok .bytes-64; marks-64 = ok .marks-64 }
+  where
+    lies : (movedBy q a room .start < 64) × (movedBy q a room .count ≤ 64)
+    lies =
+        placed-lies (movedBy q a room .puts) (lyingAt q (movedBy q a room .start) (movedBy q a room .count)) (movedBy q a room .place)
+        (movedBy q a room .character)
+        (subst WellFormed (acted-in-parts q room ok a) (well-formed-acted q a room ok r))
+
+-- the place that an act writes is one of the 64
+pub place-in : (q : Queue) (a : Act) (room : ℕ) → movedBy q a room .place < 64
+unfolding movedBy
+place-in q (act.Add c) room = omega arith
+place-in q act.Take room = omega arith
+place-in q act.Clear room = omega arith
+place-in q act.Nothing room = omega arith
 
 -- ---- places are used again: however many characters come and go, the list is what the same acts make of a list
 abbrev pub allActedOn : ℕ → List Act → Queue → Queue

@@ -6,9 +6,11 @@ use mathlib.Core.List.{List}
 use lib.ListN.{length, getD, set, replicate}
 use lib.Dec.{eqb, ltb}
 use Rattle.bits.specs.Choice.{pick}
+use Rattle.bits.specs.Bits.{oneIf}
 use Rattle.queue.specs.declared.Character.{Character}
 use Rattle.queue.specs.declared.Queue.{Queue}
 use Rattle.queue.specs.declared.Added.{Added}
+use Rattle.queue.specs.declared.Moved.{Moved}
 use Rattle.queue.specs.declared.Act.{Act}
 use Rattle.queue.specs.declared.Act.the-variants as act
 
@@ -75,3 +77,35 @@ actedOn q (act.Add c) room = addedTo q c room
 actedOn q act.Take room = record { queue = takenFrom q; kept = true }
 actedOn q act.Clear room = record { queue = clearedFrom q; kept = true }
 actedOn q act.Nothing room = record { queue = q; kept = true }
+
+-- the same but for the places: where the characters lie after an act, and which place the act writes, if any
+unfoldable pub movedBy : Queue → Act → ℕ → Moved
+movedBy q (act.Add c) room =
+    record {
+      start = q .start;
+      count = q .count + oneIf (ltb (q .count) room);
+      kept = ltb (q .count) room;
+      puts = ltb (q .count) room;
+      place = (q .start + q .count) % 64;
+      character = c;
+    }
+movedBy q act.Take room =
+    record {
+      start = (q .start + oneIf (not (eqb (q .count) 0))) % 64;
+      count = q .count - oneIf (not (eqb (q .count) 0));
+      kept = true;
+      puts = false;
+      place = 0;
+      character = none;
+    }
+movedBy q act.Clear room = record { start = q .start; count = 0; kept = true; puts = false; place = 0; character = none }
+movedBy q act.Nothing room = record { start = q .start; count = q .count; kept = true; puts = false; place = 0; character = none }
+
+-- the same places, with the characters lying elsewhere among them
+abbrev pub lyingAt : Queue → ℕ → ℕ → Queue
+lyingAt q start count = record { bytes = q .bytes; marks = q .marks; start = start; count = count }
+
+-- a character in a place
+unfoldable pub placedIn : Queue → ℕ → Character → Queue
+placedIn q place c =
+    record { bytes = set (q .bytes) place (c .byte); marks = set (q .marks) place (c .mark); start = q .start; count = q .count }

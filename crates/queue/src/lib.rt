@@ -3,8 +3,8 @@
 use bits::chosen;
 use bits::one_if;
 ghost use mathlib.Core.Path.{_≡_};
-ghost use Prim.Native.Nat.{_≤_};
-ghost use Rattle.queue.specs.Queue.{WellFormed, emptyQueue, addedTo, takenFrom, clearedFrom, oldestOf, anyMarkOf, actedOn};
+ghost use Prim.Native.Nat.{_<_, _≤_};
+ghost use Rattle.queue.specs.Queue.{WellFormed, emptyQueue, addedTo, takenFrom, clearedFrom, oldestOf, anyMarkOf, actedOn, movedBy, placedIn};
 
 pub struct Character {
     pub byte: u8,
@@ -15,7 +15,7 @@ pub struct Character {
 pub struct Queue {
     bytes: [u8; 64],
     marks: [u8; 64],
-    start: u8,
+    pub start: u8,
     pub count: u8,
 }
 
@@ -23,6 +23,17 @@ pub struct Queue {
 pub struct Added {
     pub queue: Queue,
     pub kept: bool,
+}
+
+// What an act makes of a queue but for its places: where its characters lie, whether one that the act added was kept, and
+// the character that goes to a place, if one does.
+pub struct Moved {
+    pub start: u8,
+    pub count: u8,
+    pub kept: bool,
+    pub puts: bool,
+    pub place: u8,
+    pub character: Character,
 }
 
 // What an event does to a queue.
@@ -146,6 +157,73 @@ impl Queue {
                 queue: self,
                 kept: true,
             },
+        }
+    }
+
+    // What an act comes to, with no place written: a record that is lent is then changed where it lies.
+    pub fn moved(self, act: Act, room: u8) -> Moved
+        requires { ⌜ WellFormed self × (room ≤ 64) ⌝ }
+        ensures { λ r. ⌜ r ≡ movedBy self act room ⌝ }
+    {
+        let start = self.start;
+        let count = self.count;
+        match act {
+            Act::Add(character) => {
+                let fits = count < room;
+                Moved {
+                    start: start,
+                    count: count + one_if(fits),
+                    kept: fits,
+                    puts: fits,
+                    place: (start + count) % 64,
+                    character: character,
+                }
+            }
+            Act::Take => {
+                let taken = one_if(count != 0);
+                Moved {
+                    start: (start + taken) % 64,
+                    count: count - taken,
+                    kept: true,
+                    puts: false,
+                    place: 0,
+                    character: Character { byte: 0, mark: 0 },
+                }
+            }
+            Act::Clear => Moved {
+                start: start,
+                count: 0,
+                kept: true,
+                puts: false,
+                place: 0,
+                character: Character { byte: 0, mark: 0 },
+            },
+            Act::Nothing => Moved {
+                start: start,
+                count: count,
+                kept: true,
+                puts: false,
+                place: 0,
+                character: Character { byte: 0, mark: 0 },
+            },
+        }
+    }
+
+    // With a character at a place, whether it is one of the queue's or not.
+    pub fn placed(self, place: u8, character: Character) -> Queue
+        requires { ⌜ WellFormed self × (place < 64) ⌝ }
+        ensures { λ r. ⌜ r ≡ placedIn self place character ⌝ }
+    {
+        let at = place as usize;
+        let mut bytes = self.bytes;
+        let mut marks = self.marks;
+        bytes[at] = character.byte;
+        marks[at] = character.mark;
+        Queue {
+            bytes: bytes,
+            marks: marks,
+            start: self.start,
+            count: self.count,
         }
     }
 }

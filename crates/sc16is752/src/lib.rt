@@ -19,7 +19,5 @@ pub extern "C" fn sc16is752_step(chip: &mut Device, kind: u64, x: u64, y: u64, z
     requires { ⌜ WellFormed (now chip) ⌝ }
     ensures { λ r. ⌜ Advanced (now (chip .entry)) (eventOf kind x y z) (now (chip .exit)) r ⌝ }
 {
-    let done = (*chip).step_numbered(kind, x, y, z);
-    *chip = done.device;
-    done.number
+    chip.advance(kind, x, y, z)
 }

@@ -1,0 +1,30 @@
+use borrow.Author.Needs.{needs}
+use Rattle.device.specs.Course.{isStill}
+use Rattle.device.proofs.effect.Effect.is_still.Statement.{statement}
+use Rattle.device.proofs.effect.Effect.is_still.Tie as tie
+use Rattle.device.proofs.effect.Effect.is_still.Reads as reads
+use Rattle.device.proofs.effect.Effect.is_still.Lts as lts
+
+enum-told : tie.Need-enum-told
+enum-told c = search needs
+
+enum-told-2 : tie.Need-enum-told-2
+enum-told-2 c = search needs
+
+enum-told-3 : tie.Need-enum-told-3
+enum-told-3 c = search needs
+
+returns : tie.Need-returns
+unfolding isStill
+returns c = simp (c .enum-told .given .1)
+
+returns-2 : tie.Need-returns-2
+unfolding isStill
+returns-2 c = simp (c .enum-told2 .given .1)
+
+returns-3 : tie.Need-returns-3
+unfolding isStill
+returns-3 c = simp (c .enum-told3 .given .1)
+
+pub is-still-spec : {M : Type 1} → statement M
+is-still-spec = tie.close (tie.spec enum-told enum-told-2 enum-told-3 returns returns-2 returns-3)
