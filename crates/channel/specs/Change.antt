@@ -1,6 +1,5 @@
 -- What a touch makes of a channel, in the parts that a lent record is changed by: the act but for the places of the queues,
 -- the flags and the latch, and the places.
-use Prim.Native.Nat.{ℕ}
 use Rattle.queue.specs.Queue.{movedBy, lyingAt, placedIn, oldestOf}
 use Rattle.registers.specs.declared.touch.Touch.{Touch}
 use Rattle.registers.specs.Arrivals.{roomOf}

@@ -1,3 +1,4 @@
--- That every contract determines its result, and the lending of a field.
+-- That every contract determines its result, and what the walks over a lent record share.
 pub mod Determined
+mod Walking
 mod Lending

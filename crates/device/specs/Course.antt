@@ -1,5 +1,5 @@
 -- What an event comes to at a lent record: which channel's it is, what it makes of that channel, and what it is answered with.
-use Prim.Native.Nat.{ℕ, _+_}
+use Prim.Native.Nat.{ℕ}
 use mathlib.Core.Bool.{Bool, true, false, not, _&&_}
 use lib.Dec.{eqb}
 use Rattle.bits.specs.Choice.{pick}

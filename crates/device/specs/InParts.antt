@@ -1,9 +1,8 @@
 -- What a lent record is changed by, part by part, comes to what the event makes of it.
-use Prim.Native.Nat.{ℕ, _<_, _≤_}
+use Prim.Native.Nat.{_<_, _≤_}
 use native.Mathlib.Omega.{arith}
-use mathlib.Core.Path.{_≡_, refl, sym, _∙_, ap, subst}
+use mathlib.Core.Path.{_≡_, refl, sym, ap, subst}
 use mathlib.Core.Bool.{Bool, true, false, not, _&&_}
-use Rattle.bits.specs.Choice.{pick}
 use Rattle.queue.specs.Queue as queue
 use Rattle.queue.specs.Laws.{lying-in}
 use Rattle.event.specs.declared.events.Event.{Event}
@@ -20,9 +19,9 @@ use Rattle.registers.specs.Laws.{room-in}
 use Rattle.lines.specs.Modem.{ctsAsserted}
 use Rattle.channel.specs.declared.channel.Channel.{Channel}
 use Rattle.channel.specs.Channel as channel
-use Rattle.channel.specs.Channel.{touchedOf, replyOf}
+use Rattle.channel.specs.Channel.{replyOf}
 use Rattle.channel.specs.Laws.{well-formed-touched}
-use Rattle.channel.specs.Change.{changeOf, settlesTo, rxPlaced, txPlaced, settledBy}
+use Rattle.channel.specs.Change.{changeOf, rxPlaced, txPlaced, settledBy}
 use Rattle.channel.specs.InParts.{apart, touched-reply, touched-put-rx, touched-put-tx, touched-put-none, put-one, place-rx, place-tx}
 use Rattle.device.specs.declared.side.Side.{Side}
 use Rattle.device.specs.declared.side.Side.the-variants as side

@@ -1,5 +1,5 @@
 -- Code that goes one way whatever a condition says, against the definitions that choose by it.
-use Prim.Native.Nat.{ℕ, _+_, _-_, _%_, _≤_}
+use Prim.Native.Nat.{ℕ, _+_, _%_, _≤_}
 use native.Mathlib.Omega.{arith}
 use mathlib.Core.Path.{_≡_, refl}
 use mathlib.Core.Bool.{Bool, true, false, not}
@@ -12,7 +12,7 @@ use Rattle.bits.specs.Bits.{oneIf}
 use Rattle.queue.specs.declared.Character.{Character}
 use Rattle.queue.specs.declared.Queue.{Queue}
 use Rattle.queue.specs.declared.Added.{Added}
-use Rattle.queue.specs.Queue.{WellFormed, none, behind, rest, takenFrom, oldestOf}
+use Rattle.queue.specs.Queue.{none, behind, oldestOf}
 
 module _ (q : Queue) where
   pub kept-or-not : (c : Character) (kept : Bool)
@@ -41,29 +41,6 @@ module _ (q : Queue) where
       go : (empty : Bool) → eqb (q .count) 0 ≡ empty → n ≡ oneIf (not empty) → n ≤ q .count
       go true h e = omega arith
       go false h e = omega (arith, eqb-false (q .count) 0 h)
-
-  taken-by : WellFormed q → (empty : Bool)
-      → _≡_ {A = Queue}
-      (record { bytes = q .bytes; marks = q .marks; start = (q .start + oneIf (not empty)) % 64; count = q .count - oneIf (not empty) })
-      (pick empty q (rest q))
-  unfolding rest oneIf
-  taken-by ok true =
-      let start : (q .start + 0) % 64 ≡ q .start = omega arith in
-      let count : q .count - 0 ≡ q .count = omega arith in
-      rw (start, count)
-  taken-by ok false = refl
-
-  pub taken-or-none : WellFormed q
-      → _≡_ {A = Queue}
-      (record {
-        bytes = q .bytes;
-        marks = q .marks;
-        start = (q .start + oneIf (not (eqb (q .count) 0))) % 64;
-        count = q .count - oneIf (not (eqb (q .count) 0));
-      })
-      (takenFrom q)
-  unfolding takenFrom
-  taken-or-none ok = taken-by ok (eqb (q .count) 0)
 
   oldest-by : (empty : Bool)
       → _≡_ {A = Character}

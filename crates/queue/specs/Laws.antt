@@ -254,7 +254,7 @@ module _ (q : Queue) (room : ℕ) (ok : WellFormed q) where
           let same : q .count + 0 ≡ q .count = omega arith in
           rw same
 
-  take-in-parts : takenFrom q ≡ lyingAt q (movedBy q act.Take room .start) (movedBy q act.Take room .count)
+  pub take-in-parts : takenFrom q ≡ lyingAt q (movedBy q act.Take room .start) (movedBy q act.Take room .count)
   unfolding takenFrom movedBy rest oneIf
   take-in-parts = go (eqb (q .count) 0)
     where

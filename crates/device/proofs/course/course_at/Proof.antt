@@ -2,13 +2,6 @@ use borrow.Author.Needs.{needs}
 use Rattle.device.specs.Course.{courseBy}
 use Rattle.device.proofs.course.course_at.Statement.{statement}
 use Rattle.device.proofs.course.course_at.Tie as tie
-use Rattle.device.proofs.course.course_at.Reads as reads
-use Rattle.device.proofs.course.course_at.Lts as lts
-use Rattle.channel.proofs.channel.Channel.change.Reads as change-reads
-use Rattle.device.proofs.course.effect_of.Reads as effect-of-reads
-use Rattle.device.proofs.effect.Effect.is_reset.Reads as is-reset-reads
-use Rattle.device.proofs.effect.Effect.is_still.Reads as is-still-reads
-use Rattle.device.proofs.effect.Effect.touch.Reads as touch-reads
 
 effect-of-requires : tie.Need-effect-of-requires
 effect-of-requires c κs = search needs

@@ -3,10 +3,6 @@ use borrow.Author.Needs.{needs}
 use Rattle.device.specs.Course.{kindEffect}
 use Rattle.device.proofs.course.effect_of.Statement.{statement}
 use Rattle.device.proofs.course.effect_of.Tie as tie
-use Rattle.device.proofs.course.effect_of.Reads as reads
-use Rattle.device.proofs.course.effect_of.Lts as lts
-use Rattle.device.proofs.effect.read_effect.Reads as read-effect-reads
-use Rattle.device.proofs.effect.write_effect.Reads as write-effect-reads
 
 write-effect-requires : tie.Need-write-effect-requires
 write-effect-requires c κs = search needs

@@ -2,8 +2,6 @@ use borrow.Author.Needs.{needs}
 use Rattle.device.specs.Course.{resetsAll}
 use Rattle.device.proofs.course.resets_all.Statement.{statement}
 use Rattle.device.proofs.course.resets_all.Tie as tie
-use Rattle.device.proofs.course.resets_all.Reads as reads
-use Rattle.device.proofs.course.resets_all.Lts as lts
 
 enum-told : tie.Need-enum-told
 enum-told c = search needs

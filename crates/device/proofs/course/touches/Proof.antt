@@ -2,8 +2,6 @@ use borrow.Author.Needs.{needs}
 use Rattle.device.specs.Course.{touchesChannel}
 use Rattle.device.proofs.course.touches.Statement.{statement}
 use Rattle.device.proofs.course.touches.Tie as tie
-use Rattle.device.proofs.course.touches.Reads as reads
-use Rattle.device.proofs.course.touches.Lts as lts
 
 enum-told : tie.Need-enum-told
 enum-told c = search needs

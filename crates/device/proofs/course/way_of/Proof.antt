@@ -2,10 +2,6 @@ use borrow.Author.Needs.{needs}
 use Rattle.device.specs.Course.{wayOf}
 use Rattle.device.proofs.course.way_of.Statement.{statement}
 use Rattle.device.proofs.course.way_of.Tie as tie
-use Rattle.device.proofs.course.way_of.Reads as reads
-use Rattle.device.proofs.course.way_of.Lts as lts
-use Rattle.device.proofs.course.way_to.Reads as way-to-reads
-use Rattle.event.proofs.event_of.Reads as event-of-reads
 
 event-of-requires : tie.Need-event-of-requires
 event-of-requires c κs = search needs

@@ -2,9 +2,6 @@ use borrow.Author.Needs.{needs}
 use Rattle.device.specs.Course.{wayTo}
 use Rattle.device.proofs.course.way_to.Statement.{statement}
 use Rattle.device.proofs.course.way_to.Tie as tie
-use Rattle.device.proofs.course.way_to.Reads as reads
-use Rattle.device.proofs.course.way_to.Lts as lts
-use Rattle.device.proofs.course.way_with.Reads as way-with-reads
 
 enum-known-event : tie.Need-enum-known-event
 enum-known-event c = search needs

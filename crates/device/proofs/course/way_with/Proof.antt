@@ -2,11 +2,6 @@ use borrow.Author.Needs.{needs}
 use Rattle.device.specs.Course.{wayWith}
 use Rattle.device.proofs.course.way_with.Statement.{statement}
 use Rattle.device.proofs.course.way_with.Tie as tie
-use Rattle.device.proofs.course.way_with.Reads as reads
-use Rattle.device.proofs.course.way_with.Lts as lts
-use Rattle.device.proofs.course.touches.Reads as touches-reads
-use Rattle.device.proofs.side.Side.is_a.Reads as is-a-reads
-use Rattle.device.proofs.side.side_of.Reads as side-of-reads
 
 touches-requires : tie.Need-touches-requires
 touches-requires c κs = search needs

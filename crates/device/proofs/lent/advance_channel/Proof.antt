@@ -35,7 +35,6 @@ use denote.Ref.{RefT, MutRef, ptr-vals, mut-tells}
 use denote.Signature.{plain}
 use denote.Steps.{only, opens, closes, owned, peeks, heard, nothing}
 use denote.Struct.Steps.{spelt}
-use denote.Struct.Declared.{Declared, row}
 use denote.Struct.Laws as LL
 use denote.Triple.Entry.{onEntry}
 use denote.Triple.Spec.{Meets, tripleOf}
@@ -88,6 +87,7 @@ use Rattle.device.proofs.course.Gave as G
 use Rattle.device.proofs.course.Gave.Laws as G′
 use Rattle.device.proofs.course.Course as R
 use Rattle.device.proofs.course.Course.Laws as R′
+use Rattle.device.proofs.Walking.{holds, fails, told}
 use Rattle.device.proofs.course.course_at as g
 use Rattle.device.proofs.course.course_at.Symbol as g-def
 use Rattle.device.proofs.course.course_at.Symbol.{name as #g}
@@ -122,19 +122,6 @@ settled u = LL.val S.the-type S′.the-laws u
 -- the parameter's type
 abbrev lent : Ty
 lent = tyRef (named 0) mut (pointee (K.the-row .written))
-
--- what is known of a record at some machine value is known at its own
-told : (D : Declared) (L : LL.Laws D) (d : D .D) (vs : List Val) → Is (row D) d vs → Is (row D) d (LL.vals D L d)
-told D L d vs is = LL.owes D L d (LL.owed D L d vs is)
-
--- how a test came out
-holds : (t : Bool) → T t → t ≡ true
-holds true _ = refl
-holds false z = absurd z
-
-fails : (t : Bool) → T (not t) → t ≡ false
-fails true z = absurd z
-fails false _ = refl
 
 -- a channel with one part in place of its own
 abbrev with-settings : Channel → Settings → Channel

@@ -6,9 +6,6 @@ use borrow.Author.Needs.{needs}
 use Rattle.queue.specs.Queue.{movedBy}
 use Rattle.queue.proofs.Queue.moved.Statement.{statement}
 use Rattle.queue.proofs.Queue.moved.Tie as tie
-use Rattle.queue.proofs.Queue.moved.Reads as reads
-use Rattle.queue.proofs.Queue.moved.Lts as lts
-use Rattle.bits.proofs.one_if.Reads as one-if-reads
 
 enum-known-act : tie.Need-enum-known-act
 enum-known-act c = search needs

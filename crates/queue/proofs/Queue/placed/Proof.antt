@@ -3,8 +3,6 @@ use borrow.Author.Needs.{needs}
 use Rattle.queue.specs.Queue.{placedIn}
 use Rattle.queue.proofs.Queue.placed.Statement.{statement}
 use Rattle.queue.proofs.Queue.placed.Tie as tie
-use Rattle.queue.proofs.Queue.placed.Reads as reads
-use Rattle.queue.proofs.Queue.placed.Lts as lts
 
 array-write-bytes : tie.Need-array-write-bytes
 array-write-bytes c = search needs

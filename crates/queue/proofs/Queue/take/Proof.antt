@@ -1,4 +1,7 @@
-use Rattle.queue.proofs.OneWay.{some-to-take, taken-or-none}
+use mathlib.Core.Path.{sym}
+use Rattle.queue.specs.Queue.{movedBy}
+use Rattle.queue.specs.Laws.{take-in-parts}
+use Rattle.queue.proofs.OneWay.{some-to-take}
 use Rattle.bits.specs.Laws.{one-if-in}
 use Prim.Native.Nat.{_≤_}
 use native.Mathlib.Omega.{arith}
@@ -16,7 +19,8 @@ sub-next : tie.Need-sub-next
 sub-next c = some-to-take (c .before .before .args .self) _ (c .before .one-if .ensures)
 
 returns : tie.Need-returns
-returns c = simp (c .before .one-if .ensures) (taken-or-none (c .before .before .args .self) (c .before .before .pre))
+unfolding movedBy
+returns c = simp (c .before .one-if .ensures) (sym (take-in-parts (c .before .before .args .self) 0 (c .before .before .pre)))
 
 pub take-spec : {M : Type 1} → statement M
 take-spec = tie.close (tie.spec one-if-requires add-next sub-next returns)

@@ -3,22 +3,6 @@ use borrow.Author.Needs.{needs}
 use Rattle.channel.specs.Change.{changeOf}
 use Rattle.channel.proofs.channel.Channel.change.Statement.{statement}
 use Rattle.channel.proofs.channel.Channel.change.Tie as tie
-use Rattle.channel.proofs.channel.Channel.change.Reads as reads
-use Rattle.channel.proofs.channel.Channel.change.Lts as lts
-use Rattle.channel.proofs.channel.Channel.reply.Reads as reply-reads
-use Rattle.channel.proofs.channel.Channel.shown.Reads as shown-reads
-use Rattle.channel.proofs.channel.moment.Reads as moment-reads
-use Rattle.lines.proofs.flags.Flags.after.Reads as flags-Flags-after-reads
-use Rattle.lines.proofs.modem.Modem.after.Reads as modem-Modem-after-reads
-use Rattle.lines.proofs.modem.Modem.cts.Reads as cts-reads
-use Rattle.lines.proofs.receive.Line.after.Reads as receive-Line-after-reads
-use Rattle.lines.proofs.transmit.Shift.after.Reads as transmit-Shift-after-reads
-use Rattle.queue.proofs.Queue.moved.Reads as moved-reads
-use Rattle.queue.proofs.Queue.oldest.Reads as oldest-reads
-use Rattle.registers.proofs.settings.Settings.receive_act.Reads as receive-act-reads
-use Rattle.registers.proofs.settings.Settings.room.Reads as room-reads
-use Rattle.registers.proofs.settings.Settings.touched.Reads as touched-reads
-use Rattle.registers.proofs.settings.Settings.transmit_act.Reads as transmit-act-reads
 
 moment-requires : tie.Need-moment-requires
 moment-requires c κs = search needs

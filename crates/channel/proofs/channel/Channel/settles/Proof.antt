@@ -2,11 +2,6 @@ use borrow.Author.Needs.{needs}
 use Rattle.channel.specs.Change.{settlesTo}
 use Rattle.channel.proofs.channel.Channel.settles.Statement.{statement}
 use Rattle.channel.proofs.channel.Channel.settles.Tie as tie
-use Rattle.channel.proofs.channel.Channel.settles.Reads as reads
-use Rattle.channel.proofs.channel.Channel.settles.Lts as lts
-use Rattle.channel.proofs.channel.moment.Reads as moment-reads
-use Rattle.lines.proofs.flags.Flags.settled.Reads as settled-reads
-use Rattle.lines.proofs.latch_after.Reads as latch-after-reads
 
 latch-after-requires : tie.Need-latch-after-requires
 latch-after-requires c κs = search needs

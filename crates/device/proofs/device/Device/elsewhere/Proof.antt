@@ -2,11 +2,6 @@ use borrow.Author.Needs.{needs}
 use Rattle.device.specs.Course.{elsewhereOf}
 use Rattle.device.proofs.device.Device.elsewhere.Statement.{statement}
 use Rattle.device.proofs.device.Device.elsewhere.Tie as tie
-use Rattle.device.proofs.device.Device.elsewhere.Reads as reads
-use Rattle.device.proofs.device.Device.elsewhere.Lts as lts
-use Rattle.device.proofs.course.resets_all.Reads as resets-all-reads
-use Rattle.device.proofs.device.Answer.number.Reads as number-reads
-use Rattle.device.proofs.device.Device.look.Reads as look-reads
 
 enum-known-made : tie.Need-enum-known-made
 enum-known-made c = search needs

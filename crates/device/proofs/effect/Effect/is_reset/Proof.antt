@@ -2,8 +2,6 @@ use borrow.Author.Needs.{needs}
 use Rattle.device.specs.Course.{isReset}
 use Rattle.device.proofs.effect.Effect.is_reset.Statement.{statement}
 use Rattle.device.proofs.effect.Effect.is_reset.Tie as tie
-use Rattle.device.proofs.effect.Effect.is_reset.Reads as reads
-use Rattle.device.proofs.effect.Effect.is_reset.Lts as lts
 
 enum-told : tie.Need-enum-told
 enum-told c = search needs

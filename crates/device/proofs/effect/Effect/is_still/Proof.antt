@@ -2,8 +2,6 @@ use borrow.Author.Needs.{needs}
 use Rattle.device.specs.Course.{isStill}
 use Rattle.device.proofs.effect.Effect.is_still.Statement.{statement}
 use Rattle.device.proofs.effect.Effect.is_still.Tie as tie
-use Rattle.device.proofs.effect.Effect.is_still.Reads as reads
-use Rattle.device.proofs.effect.Effect.is_still.Lts as lts
 
 enum-told : tie.Need-enum-told
 enum-told c = search needs

@@ -2,8 +2,6 @@ use borrow.Author.Needs.{needs}
 use Rattle.device.specs.Course.{touchIn}
 use Rattle.device.proofs.effect.Effect.touch.Statement.{statement}
 use Rattle.device.proofs.effect.Effect.touch.Tie as tie
-use Rattle.device.proofs.effect.Effect.touch.Reads as reads
-use Rattle.device.proofs.effect.Effect.touch.Lts as lts
 
 enum-known-self : tie.Need-enum-known-self
 enum-known-self c = search needs

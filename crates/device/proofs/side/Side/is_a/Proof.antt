@@ -2,8 +2,6 @@ use borrow.Author.Needs.{needs}
 use Rattle.device.specs.Effects.{isA}
 use Rattle.device.proofs.side.Side.is_a.Statement.{statement}
 use Rattle.device.proofs.side.Side.is_a.Tie as tie
-use Rattle.device.proofs.side.Side.is_a.Reads as reads
-use Rattle.device.proofs.side.Side.is_a.Lts as lts
 
 enum-told : tie.Need-enum-told
 enum-told c = search needs
