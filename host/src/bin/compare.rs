@@ -157,27 +157,27 @@ impl Script {
         self.general(channel);
     }
 
+    /// A byte of two levels: none, the one, the other, or any.
+    fn two_levels(&mut self) -> u64 {
+        match self.below(4) {
+            0 => 0,
+            1 => self.below(16),
+            2 => self.below(16) << 4,
+            _ => self.below(256),
+        }
+    }
+
     /// TCR and TLR, by way of EFR 4 and MCR 2.
     fn levels(&mut self, channel: u64, efr: u64) {
         self.efr(channel, efr | 0x10);
         let mcr = self.below(256);
         self.write(channel, 4, mcr | 4);
         if !self.random.once_in(3) {
-            let tcr = match self.below(4) {
-                0 => 0,
-                1 => self.below(16),
-                2 => self.below(16) << 4,
-                _ => self.below(256),
-            };
+            let tcr = self.two_levels();
             self.write(channel, 6, tcr);
         }
         if !self.random.once_in(3) {
-            let tlr = match self.below(4) {
-                0 => 0,
-                1 => self.below(16),
-                2 => self.below(16) << 4,
-                _ => self.below(256),
-            };
+            let tlr = self.two_levels();
             self.write(channel, 7, tlr);
         }
         if self.random.once_in(2) {
