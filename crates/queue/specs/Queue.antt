@@ -78,6 +78,10 @@ actedOn q act.Take room = record { queue = takenFrom q; kept = true }
 actedOn q act.Clear room = record { queue = clearedFrom q; kept = true }
 actedOn q act.Nothing room = record { queue = q; kept = true }
 
+-- an act that adds no character loses none and writes no place
+abbrev pub noneAdded : ℕ → ℕ → Moved
+noneAdded start count = record { start = start; count = count; kept = true; puts = false; place = 0; character = none }
+
 -- the same but for the places: where the characters lie after an act, and which place the act writes, if any
 unfoldable pub movedBy : Queue → Act → ℕ → Moved
 movedBy q (act.Add c) room =
@@ -90,16 +94,9 @@ movedBy q (act.Add c) room =
       character = c;
     }
 movedBy q act.Take room =
-    record {
-      start = (q .start + oneIf (not (eqb (q .count) 0))) % 64;
-      count = q .count - oneIf (not (eqb (q .count) 0));
-      kept = true;
-      puts = false;
-      place = 0;
-      character = none;
-    }
-movedBy q act.Clear room = record { start = q .start; count = 0; kept = true; puts = false; place = 0; character = none }
-movedBy q act.Nothing room = record { start = q .start; count = q .count; kept = true; puts = false; place = 0; character = none }
+    noneAdded ((q .start + oneIf (not (eqb (q .count) 0))) % 64) (q .count - oneIf (not (eqb (q .count) 0)))
+movedBy q act.Clear room = noneAdded (q .start) 0
+movedBy q act.Nothing room = noneAdded (q .start) (q .count)
 
 -- the same places, with the characters lying elsewhere among them
 abbrev pub lyingAt : Queue → ℕ → ℕ → Queue

@@ -4,7 +4,7 @@ use bits::chosen;
 use bits::one_if;
 ghost use mathlib.Core.Path.{_≡_};
 ghost use Prim.Native.Nat.{_<_, _≤_};
-ghost use Rattle.queue.specs.Queue.{WellFormed, emptyQueue, addedTo, takenFrom, clearedFrom, oldestOf, anyMarkOf, actedOn, movedBy, placedIn};
+ghost use Rattle.queue.specs.Queue.{WellFormed, emptyQueue, addedTo, takenFrom, clearedFrom, oldestOf, anyMarkOf, actedOn, noneAdded, movedBy, placedIn};
 
 pub struct Character {
     pub byte: u8,
@@ -42,6 +42,20 @@ pub enum Act {
     Take,
     Clear,
     Nothing,
+}
+
+// An act that adds no character leaves the others lying somewhere, and writes no place.
+fn none_added(start: u8, count: u8) -> Moved
+    ensures { λ r. ⌜ r ≡ noneAdded start count ⌝ }
+{
+    Moved {
+        start: start,
+        count: count,
+        kept: true,
+        puts: false,
+        place: 0,
+        character: Character { byte: 0, mark: 0 },
+    }
 }
 
 impl Queue {
@@ -181,31 +195,10 @@ impl Queue {
             }
             Act::Take => {
                 let taken = one_if(count != 0);
-                Moved {
-                    start: (start + taken) % 64,
-                    count: count - taken,
-                    kept: true,
-                    puts: false,
-                    place: 0,
-                    character: Character { byte: 0, mark: 0 },
-                }
+                none_added((start + taken) % 64, count - taken)
             }
-            Act::Clear => Moved {
-                start: start,
-                count: 0,
-                kept: true,
-                puts: false,
-                place: 0,
-                character: Character { byte: 0, mark: 0 },
-            },
-            Act::Nothing => Moved {
-                start: start,
-                count: count,
-                kept: true,
-                puts: false,
-                place: 0,
-                character: Character { byte: 0, mark: 0 },
-            },
+            Act::Clear => none_added(start, 0),
+            Act::Nothing => none_added(start, count),
         }
     }
 
