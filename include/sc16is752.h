@@ -73,15 +73,20 @@ struct sc16is752_flags {
     bool thr;
 };
 
-struct sc16is752_channel {
-    struct sc16is752_settings settings;
-    struct sc16is752_queue rx;
-    struct sc16is752_queue tx;
+/* The lines of a channel: all that it keeps beside its stored registers and its queues. */
+struct sc16is752_state {
     struct sc16is752_line line;
     struct sc16is752_shift shift;
     struct sc16is752_modem modem;
     struct sc16is752_flags flags;
     bool latch; /* auto-RTS, true for asserted */
+};
+
+struct sc16is752_channel {
+    struct sc16is752_settings settings;
+    struct sc16is752_state state;
+    struct sc16is752_queue rx;
+    struct sc16is752_queue tx;
 };
 
 /* A chip: channel 0 is a, channel 1 is b. */

@@ -20,6 +20,7 @@ SIZE(sc16is752_line, 2);
 SIZE(sc16is752_shift, 2);
 SIZE(sc16is752_modem, 2);
 SIZE(sc16is752_flags, 4);
+SIZE(sc16is752_state, 11);
 SIZE(sc16is752_channel, 286);
 SIZE(sc16is752, 572);
 
@@ -27,13 +28,14 @@ AT(sc16is752_queue, marks, 64);
 AT(sc16is752_queue, start, 128);
 AT(sc16is752_queue, count, 129);
 AT(sc16is752_channel, settings, 0);
-AT(sc16is752_channel, rx, 15);
-AT(sc16is752_channel, tx, 145);
-AT(sc16is752_channel, line, 275);
-AT(sc16is752_channel, shift, 277);
-AT(sc16is752_channel, modem, 279);
-AT(sc16is752_channel, flags, 281);
-AT(sc16is752_channel, latch, 285);
+AT(sc16is752_channel, state, 15);
+AT(sc16is752_channel, rx, 26);
+AT(sc16is752_channel, tx, 156);
+AT(sc16is752_state, line, 0);
+AT(sc16is752_state, shift, 2);
+AT(sc16is752_state, modem, 4);
+AT(sc16is752_state, flags, 6);
+AT(sc16is752_state, latch, 10);
 AT(sc16is752, a, 0);
 AT(sc16is752, b, 286);
 
@@ -77,44 +79,44 @@ static void lines(void)
     write_to(0, SC16IS752_LCR, SC16IS752_LCR_WORD_8);
     assert(sc16is752_step(&chip, SC16IS752_ARRIVAL, 0, 0x41, 0) == SC16IS752_KEPT);
     assert(sc16is752_step(&chip, SC16IS752_ARRIVAL, 0, 0x42, 0) == SC16IS752_LOST);
-    assert(chip.a.line.overrun && chip.a.rx.count == 1);
+    assert(chip.a.state.line.overrun && chip.a.rx.count == 1);
     assert(sc16is752_step(&chip, SC16IS752_READ, 0, SC16IS752_RHR, 0) == 0x41);
     assert(sc16is752_step(&chip, SC16IS752_ARRIVAL, 0, 0x43, SC16IS752_MARK_FRAMING) == SC16IS752_KEPT);
     assert(chip.a.rx.start == 1 && chip.a.rx.count == 1 && chip.a.rx.bytes[1] == 0x43 && chip.a.rx.marks[1] == 2);
 
-    assert(chip.a.flags.thr);
+    assert(chip.a.state.flags.thr);
     write_to(0, SC16IS752_THR, 0x51);
-    assert(!chip.a.flags.thr && chip.a.tx.count == 1 && chip.a.tx.bytes[0] == 0x51);
+    assert(!chip.a.state.flags.thr && chip.a.tx.count == 1 && chip.a.tx.bytes[0] == 0x51);
     assert(sc16is752_step(&chip, SC16IS752_SLOT, 0, 0, 0) == SC16IS752_NO_CHARACTER);
-    assert(chip.a.shift.full && chip.a.shift.byte == 0x51 && chip.a.tx.count == 0 && chip.a.flags.thr);
+    assert(chip.a.state.shift.full && chip.a.state.shift.byte == 0x51 && chip.a.tx.count == 0 && chip.a.state.flags.thr);
     assert(sc16is752_step(&chip, SC16IS752_SLOT, 0, 0, 0) == 0x51);
 
-    assert(sc16is752_step(&chip, SC16IS752_QUIET, 0, 0, 0) == 0 && chip.a.line.quiet == 1);
+    assert(sc16is752_step(&chip, SC16IS752_QUIET, 0, 0, 0) == 0 && chip.a.state.line.quiet == 1);
     assert(sc16is752_step(&chip, SC16IS752_PINS, 0, SC16IS752_PIN_CTS | SC16IS752_PIN_CD, 0) == 0);
     assert(sc16is752_step(&chip, SC16IS752_PINS, 0, SC16IS752_PIN_CD, 0) == 0);
-    assert(chip.a.modem.pins == 8 && chip.a.modem.changes == 9 && chip.a.flags.cts);
+    assert(chip.a.state.modem.pins == 8 && chip.a.state.modem.changes == 9 && chip.a.state.flags.cts);
 
     write_to(0, SC16IS752_MCR, SC16IS752_MCR_RTS);
-    assert(!chip.a.flags.rts && sc16is752_step(&chip, SC16IS752_RTS_LOOK, 0, 0, 0) == 1);
+    assert(!chip.a.state.flags.rts && sc16is752_step(&chip, SC16IS752_RTS_LOOK, 0, 0, 0) == 1);
     write_to(0, SC16IS752_MCR, 0);
-    assert(chip.a.flags.rts && sc16is752_step(&chip, SC16IS752_RTS_LOOK, 0, 0, 0) == 0);
+    assert(chip.a.state.flags.rts && sc16is752_step(&chip, SC16IS752_RTS_LOOK, 0, 0, 0) == 0);
 
     write_to(0, SC16IS752_LCR, SC16IS752_LCR_ENHANCED);
     write_to(0, SC16IS752_EFR, SC16IS752_EFR_SPECIAL | SC16IS752_EFR_AUTO_RTS | SC16IS752_EFR_ENHANCED);
     write_to(0, SC16IS752_XOFF2, 0x44);
     write_to(0, SC16IS752_LCR, SC16IS752_LCR_WORD_8);
-    assert(!chip.a.flags.special && chip.a.latch);
-    assert(sc16is752_step(&chip, SC16IS752_ARRIVAL, 0, 0x44, 0) == SC16IS752_LOST && chip.a.flags.special);
+    assert(!chip.a.state.flags.special && chip.a.state.latch);
+    assert(sc16is752_step(&chip, SC16IS752_ARRIVAL, 0, 0x44, 0) == SC16IS752_LOST && chip.a.state.flags.special);
     write_to(0, SC16IS752_FCR, SC16IS752_FCR_FIFO);
     for (unsigned i = 0; i < 8; i++)
         assert(sc16is752_step(&chip, SC16IS752_ARRIVAL, 0, i, 0) == SC16IS752_KEPT);
-    assert(!chip.a.latch && chip.a.rx.count == 8);
+    assert(!chip.a.state.latch && chip.a.rx.count == 8);
 }
 
 int main(void)
 {
     sc16is752_new(&chip);
-    assert(chip.a.settings.lcr == SC16IS752_LCR_AFTER_RESET && chip.a.latch && chip.a.flags.thr);
+    assert(chip.a.settings.lcr == SC16IS752_LCR_AFTER_RESET && chip.a.state.latch && chip.a.state.flags.thr);
     assert(memcmp(&chip.a, &chip.b, sizeof chip.a) == 0);
     settings();
     lines();

@@ -1,4 +1,4 @@
--- How much of a buffer was read.
+-- Definitions: how much of a buffer was read.
 use Prim.Native.Nat.{ℕ, _+_, _≤_}
 use Rattle.bench.specs.declared.Input.{Input}
 use Rattle.bench.specs.declared.Input.the-variants as input

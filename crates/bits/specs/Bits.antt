@@ -1,12 +1,17 @@
--- A byte by its bits, by division and remainder alone. Bit 0 is the lowest, as in the data sheet's register tables.
+-- Definitions: a byte by its bits, by division and remainder alone. Bit 0 is the lowest, as in the data sheet's register
+-- tables.
 use Prim.Native.Nat.{ℕ, _+_, _-_, _*_, _/_, _%_, _^_}
-use mathlib.Core.Bool.{Bool}
+use mathlib.Core.Bool.{Bool, not, _&&_, _||_}
 use lib.Dec.{eqb}
 use Rattle.bits.specs.Choice.{pick}
 
 -- 1 for a condition that holds, else 0
 unfoldable pub oneIf : Bool → ℕ
 oneIf condition = pick condition 1 0
+
+-- one of two conditions holds and the other does not
+unfoldable pub differs : Bool → Bool → Bool
+differs one other = one && not other || not one && other
 
 -- the part of a byte that begins at a place and is so many bits wide: TLR 7:4 is `partAt tlr 4 4`
 unfoldable pub partAt : ℕ → ℕ → ℕ → ℕ

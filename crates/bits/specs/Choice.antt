@@ -1,4 +1,4 @@
--- A choice between two values by a condition.
+-- Definitions: a choice between two values by a condition.
 use mathlib.Core.Path.{_≡_, refl}
 use mathlib.Core.Bool.{Bool, true, false}
 

@@ -1,4 +1,4 @@
--- The laws that join masks and shifts to parts of a byte, each once over the place and the width.
+-- Laws: the laws that join masks and shifts to parts of a byte, each once over the place and the width.
 use Prim.Native.Nat.{ℕ, _+_, _-_, _*_, _/_, _%_, _^_, _<_, _≤_}
 use native.Mathlib.Nat.{mod-eq-of-lt, mod-lt, mul-mod-left, zero-mod, div-eq-of-lt, lt-of-lt-of-le, lt-of-le-of-lt, mod-le, mod-one, div-one, add-zero, add-comm, mul-comm, one-mul}
 use native.Mathlib.Omega.{arith}
@@ -124,9 +124,6 @@ module _ (old new place width : ℕ) (old-fits : old < 256) (new-fits : new < 25
   replaced-to-the-end far = joined-past (joinedAt old place (partAt new place width)) (place + width) (partAt old (place + width) 8) (joined-fits old place (partAt new place width) old-fits) far ∙ replaced-joined
 
 -- ---- the word length
-pub cut-by : (character lcr n : ℕ) → lcr % 4 ≡ n → character % 2 ^ (5 + n) ≡ cutTo character lcr
+pub cut-part : (character lcr : ℕ) → partAt character 0 (5 + partAt lcr 0 2) ≡ cutTo character lcr
 unfolding cutTo partAt
-cut-by character lcr n h = rw (div-one lcr, h)
-
-pub cut-whole : (character lcr : ℕ) → character < 256 → lcr % 4 ≡ 3 → character ≡ cutTo character lcr
-cut-whole character lcr fits h = sym (mod-eq-of-lt fits) ∙ cut-by character lcr 3 h
+cut-part character lcr = rw (div-one character)

@@ -3,7 +3,7 @@
 ghost use mathlib.Core.Path.{_≡_};
 ghost use Prim.Native.Nat.{_-_, _^_, _<_};
 ghost use Rattle.bits.specs.Choice.{pick};
-ghost use Rattle.bits.specs.Bits.{oneIf, bitAt, partAt, joinedAt, replacedAt, cutTo};
+ghost use Rattle.bits.specs.Bits.{oneIf, differs, bitAt, partAt, joinedAt, replacedAt, cutTo};
 
 // The first of two bytes where a condition holds, else the second.
 pub fn chosen(condition: bool, x: u8, y: u8) -> u8
@@ -17,6 +17,13 @@ pub fn one_if(condition: bool) -> u8
     ensures { λ r. ⌜ r ≡ oneIf condition ⌝ }
 {
     if condition { 1 } else { 0 }
+}
+
+// Whether one of two conditions holds and the other does not.
+pub fn differ(one: bool, other: bool) -> bool
+    ensures { λ r. ⌜ r ≡ differs one other ⌝ }
+{
+    (one & !other) | (!one & other)
 }
 
 // As many ones as a width, from bit 0 on.
@@ -76,11 +83,5 @@ pub fn replaced(old: u8, new: u8, place: u8, width: u8) -> u8
 pub fn cut(character: u8, lcr: u8) -> u8
     ensures { λ r. ⌜ r ≡ cutTo character lcr ⌝ }
 {
-    let length = lcr % 4;
-    match length {
-        0 => character % 32,
-        1 => character % 64,
-        2 => character % 128,
-        _ => character,
-    }
+    part(character, 0, 5 + part(lcr, 0, 2))
 }

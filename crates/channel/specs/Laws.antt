@@ -1,52 +1,194 @@
--- A channel's record stays well formed.
-use Prim.Native.Nat.{ℕ}
+-- Laws: what a step comes to for the stored registers and the queues, and that a channel's record stays well formed.
+use Prim.Native.Nat.{_≤_}
 use native.Mathlib.Omega.{arith}
-use Rattle.queue.specs.Laws.{well-formed-empty, well-formed-cleared, well-formed-acted, marks-below-empty, marks-below-cleared, marks-below-acted}
-use Rattle.registers.specs.declared.touch.Touch.{Touch}
-use Rattle.registers.specs.Arrivals.{roomOf}
-use Rattle.registers.specs.Touches.{receiveAct, transmitAct}
-use Rattle.registers.specs.Laws.{TouchIn, room-in, receive-act-mark}
-use Rattle.lines.specs.Receive.{lineAfter}
-use Rattle.lines.specs.Modem.{ctsAsserted, modemAfter}
-use Rattle.lines.specs.Laws.{quiet-in, ModemIn, modem-in}
+use mathlib.Core.Path.{_≡_, refl, sym}
+use mathlib.Core.Bool.{Bool, true, false}
+use borrow.Author.Tests.{not-false}
+use Rattle.bits.specs.Choice.{pick, pick-by}
+use Rattle.queue.specs.Change.{Change, Add, Take, Clear, Stay}
+use Rattle.queue.specs.Queue.{Fits, clearsAll, staysAs, movedBy, afterOf, changed}
+use Rattle.queue.specs.Laws.{well-formed-changed, MarkBelow, marks-below-changed, fits-moved, moved-if}
+use Rattle.event.specs.declared.events.Touch.{Touch}
+use Rattle.event.specs.declared.events.Touch.the-variants as touch
+use Rattle.event.specs.Events.{TouchIn}
+use Rattle.registers.specs.declared.register.Register.the-variants as register
+use Rattle.registers.specs.declared.settings.Settings.{Settings}
+use Rattle.registers.specs.Windows.{same, registerAt}
+use Rattle.registers.specs.Arrivals.{doesPass, heardOf, roomOf}
+use Rattle.registers.specs.Queues.{clears, loads}
+use Rattle.registers.specs.Laws.{same-is, closed-sets-none, room-in}
+use Rattle.lines.specs.Receive.{lineArrived}
+use Rattle.lines.specs.Modem.{ctsAsserted}
+use Rattle.lines.specs.Laws.{quiet-read, quiet-cleared, quiet-quieter, ModemIn, modem-read, modem-changed}
 use Rattle.channel.specs.declared.channel.Channel.{Channel}
-use Rattle.channel.specs.Channel.{WellFormed, actOf, latched, settled, touchedOf, resetOf, blankChannel}
+use Rattle.channel.specs.declared.state.State.{State}
+use Rattle.channel.specs.State.{withLine, withShift, withModem, withFlags, withLatch}
+use Rattle.channel.specs.Channel.{WellFormed}
+use Rattle.channel.specs.Touches.{settingBy, settingsAfter, arrivedCharacter, receiveChange, sentBy, transmitChange, resetsBy}
+use Rattle.channel.specs.Acts.{linesAct, sendsOf, writeAct, readAct, arrivalAct, slotAct, pinsAct, quietAct, lookAct, actOf}
+use Rattle.channel.specs.Step.{settledOf, stepAt, afterStep, touchedBy}
 
-pub well-formed-touched : (ch : Channel) (t : Touch) → TouchIn t → WellFormed ch → WellFormed (touchedOf ch t .channel)
-unfolding touchedOf settled latched actOf lineAfter
+-- ---- the act of each kind, by the stored registers alone
+module _ (ch : Channel) where
+  abbrev s : Settings
+  s = ch .settings
+
+  abbrev cts : Bool
+  cts = ctsAsserted (ch .state .modem)
+
+  act-setting : (t : Touch) → actOf ch t .setting ≡ settingBy s t
+  unfolding actOf settingBy writeAct readAct arrivalAct slotAct pinsAct quietAct lookAct linesAct
+  act-setting (touch.Write address byte) = refl
+  act-setting (touch.Read address) = refl
+  act-setting (touch.Arrival byte mark) = refl
+  act-setting touch.Slot = refl
+  act-setting (touch.Pins value) = refl
+  act-setting touch.Quiet = refl
+  act-setting touch.RtsLook = refl
+
+  act-resets : (t : Touch) → actOf ch t .resets ≡ resetsBy s t
+  unfolding actOf resetsBy writeAct readAct arrivalAct slotAct pinsAct quietAct lookAct linesAct
+  act-resets (touch.Write address byte) = refl
+  act-resets (touch.Read address) = refl
+  act-resets (touch.Arrival byte mark) = refl
+  act-resets touch.Slot = refl
+  act-resets (touch.Pins value) = refl
+  act-resets touch.Quiet = refl
+  act-resets touch.RtsLook = refl
+
+  act-rx : (t : Touch) → actOf ch t .rx ≡ movedBy (ch .rx) (receiveChange s t) (roomOf s)
+  unfolding actOf receiveChange movedBy writeAct readAct arrivalAct slotAct pinsAct quietAct lookAct linesAct
+  act-rx (touch.Write address byte) = sym (moved-if (ch .rx) Clear (roomOf s) (clears s (registerAt s address) byte 1))
+  act-rx (touch.Read address) = sym (moved-if (ch .rx) Take (roomOf s) (same (registerAt s address) register.RhrThr))
+  act-rx (touch.Arrival byte mark) =
+      sym (moved-if (ch .rx) (Add (arrivedCharacter s byte mark)) (roomOf s) (doesPass (heardOf s byte mark .gate)))
+  act-rx touch.Slot = refl
+  act-rx (touch.Pins value) = refl
+  act-rx touch.Quiet = refl
+  act-rx touch.RtsLook = refl
+
+  sent-moved : (thr clear : Bool) (c : Change)
+      → pick thr (movedBy (ch .tx) c 64) (pick clear (clearsAll (ch .tx)) (staysAs (ch .tx)))
+      ≡ movedBy (ch .tx) (pick thr c (pick clear Clear Stay)) 64
+  unfolding movedBy
+  sent-moved true clear c = refl
+  sent-moved false true c = refl
+  sent-moved false false c = refl
+
+  act-tx : (t : Touch) → actOf ch t .tx ≡ movedBy (ch .tx) (transmitChange s cts t) 64
+  unfolding actOf transmitChange sentBy sendsOf movedBy writeAct readAct arrivalAct slotAct pinsAct quietAct lookAct linesAct
+  act-tx (touch.Write address byte) =
+      sent-moved (same (registerAt s address) register.RhrThr) (clears s (registerAt s address) byte 2) (Add (record { byte = byte; mark = 0 }))
+  act-tx (touch.Read address) = refl
+  act-tx (touch.Arrival byte mark) = refl
+  act-tx touch.Slot = sym (moved-if (ch .tx) Take 64 (loads s cts))
+  act-tx (touch.Pins value) = refl
+  act-tx touch.Quiet = refl
+  act-tx touch.RtsLook = refl
+
+  pub act-free : (t : Touch) → WellFormed ch → actOf ch t .tx .count ≤ 64
+  unfolding afterOf
+  act-free t ok =
+      rw (act-tx t) (well-formed-changed (ch .tx) (transmitChange s cts t) 64 (ok .tx-in) (omega arith) .count-in)
+
+-- ---- and the step
+module _ (ch : Channel) (t : Touch) where
+  pub step-settings : stepAt ch t .settings ≡ settingsAfter (ch .settings) t
+  unfolding stepAt settledOf settingsAfter
+  step-settings = rw (act-setting ch t)
+
+  pub step-resets : stepAt ch t .resets ≡ resetsBy (ch .settings) t
+  unfolding stepAt settledOf
+  step-resets = act-resets ch t
+
+  pub step-rx : stepAt ch t .rx ≡ movedBy (ch .rx) (receiveChange (ch .settings) t) (roomOf (ch .settings))
+  unfolding stepAt settledOf
+  step-rx = act-rx ch t
+
+  step-tx : stepAt ch t .tx ≡ movedBy (ch .tx) (transmitChange (ch .settings) (cts ch) t) 64
+  unfolding stepAt settledOf
+  step-tx = act-tx ch t
+
+  pub rx-fits : Fits (stepAt ch t .rx)
+  rx-fits = rw step-rx (fits-moved (ch .rx) (receiveChange (ch .settings) t) (roomOf (ch .settings)))
+
+  pub tx-fits : Fits (stepAt ch t .tx)
+  tx-fits = rw step-tx (fits-moved (ch .tx) (transmitChange (ch .settings) (cts ch) t) 64)
+
+  -- where no register is set, each holds what it held
+  pub none-set : stepAt ch t .sets ≡ false → stepAt ch t .settings ≡ ch .settings
+  unfolding stepAt settledOf
+  none-set h =
+      closed-sets-none (ch .settings) (actOf ch t .setting) (same-is (actOf ch t .setting .register) register.Closed (not-false _ h))
+
+  -- the channel after an event, part by part
+  pub touched-settings : touchedBy ch t .settings ≡ settingsAfter (ch .settings) t
+  unfolding afterStep
+  touched-settings = step-settings
+
+  pub touched-rx : touchedBy ch t .rx ≡ changed (ch .rx) (receiveChange (ch .settings) t) (roomOf (ch .settings))
+  unfolding afterStep
+  touched-rx = rw step-rx
+
+  touched-tx : touchedBy ch t .tx ≡ changed (ch .tx) (transmitChange (ch .settings) (cts ch) t) 64
+  unfolding afterStep
+  touched-tx = rw step-tx
+
+-- ---- a record stays well formed
+-- the lines within their bounds
+record LinesIn (lines : State) : Type 0 where
+  quiet-in : lines .line .quiet ≤ 4
+  modem-in : ModemIn (lines .modem)
+
+act-lines-in : (ch : Channel) (t : Touch) → TouchIn t → LinesIn (ch .state) → LinesIn (actOf ch t .state)
+unfolding actOf writeAct readAct arrivalAct slotAct pinsAct quietAct lookAct linesAct withLine withShift withModem withFlags lineArrived
+act-lines-in ch (touch.Write address byte) v h =
+    record {
+      quiet-in = quiet-cleared (ch .state .line) (clears (ch .settings) (registerAt (ch .settings) address) byte 1) (h .quiet-in);
+      modem-in = h .modem-in;
+    }
+act-lines-in ch (touch.Read address) v h =
+    record {
+      quiet-in = quiet-read (ch .state .line) (registerAt (ch .settings) address) (h .quiet-in);
+      modem-in = modem-read (ch .state .modem) (registerAt (ch .settings) address) (h .modem-in);
+    }
+act-lines-in ch (touch.Arrival byte mark) v h = record { quiet-in = omega arith; modem-in = h .modem-in }
+act-lines-in ch touch.Slot v h = record { quiet-in = h .quiet-in; modem-in = h .modem-in }
+act-lines-in ch (touch.Pins value) v h = record { quiet-in = h .quiet-in; modem-in = modem-changed (ch .state .modem) value v (h .modem-in) }
+act-lines-in ch touch.Quiet v h = record { quiet-in = quiet-quieter (ch .state .line) (h .quiet-in); modem-in = h .modem-in }
+act-lines-in ch touch.RtsLook v h = h
+
+touched-lines-in : (ch : Channel) (t : Touch) → TouchIn t → LinesIn (ch .state) → LinesIn (touchedBy ch t .state)
+unfolding afterStep stepAt settledOf withLatch withFlags
+touched-lines-in ch t v h =
+    record { quiet-in = act-lines-in ch t v h .quiet-in; modem-in = act-lines-in ch t v h .modem-in }
+
+received-mark : (s : Settings) (t : Touch) → TouchIn t → MarkBelow 8 (receiveChange s t)
+unfolding receiveChange
+received-mark s (touch.Write address byte) v = pick-by (MarkBelow 8) (clears s (registerAt s address) byte 1) (λ _. tt) (λ _. tt)
+received-mark s (touch.Read address) v = pick-by (MarkBelow 8) (same (registerAt s address) register.RhrThr) (λ _. tt) (λ _. tt)
+received-mark s (touch.Arrival byte mark) v = pick-by (MarkBelow 8) (doesPass (heardOf s byte mark .gate)) (λ _. v .1) (λ _. tt)
+received-mark s touch.Slot v = tt
+received-mark s (touch.Pins value) v = tt
+received-mark s touch.Quiet v = tt
+received-mark s touch.RtsLook v = tt
+
+pub well-formed-touched : (ch : Channel) (t : Touch) → TouchIn t → WellFormed ch → WellFormed (touchedBy ch t)
 well-formed-touched ch t v ok =
     record {
-      rx-in = well-formed-acted (ch .rx) (receiveAct (ch .settings) t) (roomOf (ch .settings)) (ok .rx-in) (room-in (ch .settings));
-      tx-in = well-formed-acted (ch .tx) (transmitAct (ch .settings) (ctsAsserted (ch .modem)) t) 64 (ok .tx-in) (omega arith);
-      marks-in = marks-below-acted 8 (ch .rx) (receiveAct (ch .settings) t) (roomOf (ch .settings)) (ok .marks-in) (receive-act-mark (ch .settings) t v);
-      quiet-in = quiet-in (ch .settings) (ch .line .quiet) t (ok .quiet-in);
-      pins-in = modem .pins-in;
-      changes-in = modem .changes-in;
+      rx-in =
+          rw (touched-rx ch t)
+          (well-formed-changed (ch .rx) (receiveChange (ch .settings) t) (roomOf (ch .settings)) (ok .rx-in) (room-in (ch .settings)));
+      tx-in = rw (touched-tx ch t) (well-formed-changed (ch .tx) (transmitChange (ch .settings) (cts ch) t) 64 (ok .tx-in) (omega arith));
+      marks-in =
+          rw (touched-rx ch t)
+          (marks-below-changed 8 (ch .rx) (receiveChange (ch .settings) t) (roomOf (ch .settings)) (ok .marks-in) (received-mark (ch .settings) t v));
+      quiet-in = lines .quiet-in;
+      pins-in = lines .modem-in .pins-in;
+      changes-in = lines .modem-in .changes-in;
     }
   where
-    modem : ModemIn (modemAfter (ch .modem) t)
-    modem = modem-in (ch .modem) t v (record { pins-in = ok .pins-in; changes-in = ok .changes-in })
-
-pub well-formed-reset : (ch : Channel) (lcr : ℕ) → WellFormed ch → WellFormed (resetOf ch lcr)
-unfolding resetOf
-well-formed-reset ch lcr ok =
-    record {
-      rx-in = well-formed-cleared (ch .rx) (ok .rx-in);
-      tx-in = well-formed-cleared (ch .tx) (ok .tx-in);
-      marks-in = marks-below-cleared 8 (ch .rx) (ok .marks-in);
-      quiet-in = omega arith;
-      pins-in = ok .pins-in;
-      changes-in = omega arith;
-    }
-
-pub well-formed-blank : WellFormed blankChannel
-unfolding blankChannel
-well-formed-blank =
-    record {
-      rx-in = well-formed-empty;
-      tx-in = well-formed-empty;
-      marks-in = marks-below-empty 8 (omega arith);
-      quiet-in = omega arith;
-      pins-in = omega arith;
-      changes-in = omega arith;
-    }
+    lines : LinesIn (touchedBy ch t .state)
+    lines =
+        touched-lines-in ch t v
+        (record { quiet-in = ok .quiet-in; modem-in = record { pins-in = ok .pins-in; changes-in = ok .changes-in } })

@@ -1,5 +1,7 @@
--- What the contracts of `channel` cite, and that its record stays well formed.
+-- What the contracts of `channel` cite, in the order of an event, and the laws of it.
+pub mod State
 pub mod Channel
-pub mod Change
-pub mod InParts
+pub mod Touches
+pub mod Acts
+pub mod Step
 pub mod Laws

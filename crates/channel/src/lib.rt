@@ -1,8 +1,10 @@
-// One serial channel: its registers, its two queues and its lines.
-mod change;
+// One serial channel: its stored registers, its lines and its two queues, and what an event that names it makes of it.
+mod act;
 mod channel;
+mod settle;
+mod state;
 
-pub use change::Change;
-pub use change::Settled;
+pub use act::Act;
 pub use channel::Channel;
-pub use channel::Touched;
+pub use settle::Step;
+pub use state::State;

@@ -1,52 +1,90 @@
--- What holds of every step: the record stays well formed, the other channel is left alone, and a refused event changes nothing.
+-- Laws: what holds of every step: a reset is the act only, the record stays well formed, the other channel is left alone, and
+-- a refused event changes nothing.
 use Prim.Native.Nat.{ℕ}
-use mathlib.Core.Path.{_≡_, refl}
-use Rattle.bits.specs.Choice.{pick-by}
+use native.Mathlib.Omega.{arith}
+use mathlib.Core.Path.{_≡_, refl, ap, _∙_}
+use mathlib.Core.Bool.{Bool, true, false, _&&_}
+use Rattle.bits.specs.Choice.{pick, pick-by}
+use Rattle.bits.specs.Bits.{bitAt}
+use Rattle.queue.specs.Change.{Clear}
+use Rattle.queue.specs.Queue.{clearsAll, staysAs, movedBy, afterOf}
+use Rattle.queue.specs.Laws.{well-formed-empty, well-formed-changed, marks-below-empty, marks-below-changed}
 use Rattle.event.specs.declared.refusal.Refusal.{Refusal}
 use Rattle.event.specs.declared.events.Event.{Event}
 use Rattle.event.specs.declared.events.Event.the-variants as event
 use Rattle.event.specs.declared.events.Made.{Made}
 use Rattle.event.specs.declared.events.Made.the-variants as made
-use Rattle.event.specs.Events.{InRange, numbersOf, eventOf, judgedOf}
+use Rattle.event.specs.declared.events.Touch.{Touch}
+use Rattle.event.specs.declared.events.Touch.the-variants as touch
+use Rattle.event.specs.Events.{TouchIn, InRange, numbersOf, eventOf, judgedOf}
 use Rattle.event.specs.Laws.{made-in-range}
+use Rattle.registers.specs.declared.register.Register.{Register}
 use Rattle.registers.specs.declared.register.Register.the-variants as register
-use Rattle.registers.specs.declared.settings.Settings.{Settings}
-use Rattle.registers.specs.declared.touch.Touch.{Touch}
-use Rattle.registers.specs.Windows.{same, registerAt}
-use Rattle.registers.specs.Laws.{TouchIn}
+use Rattle.registers.specs.Windows.{registerAt}
+use Rattle.registers.specs.Writes.{settingOf, ifSet, withSetting, resetsDevice}
+use Rattle.registers.specs.Queues.{clears}
+use Rattle.registers.specs.Laws.{same-is}
 use Rattle.channel.specs.declared.channel.Channel.{Channel}
 use Rattle.channel.specs.Channel as channel
-use Rattle.channel.specs.Channel.{touchedOf, blankChannel}
-use Rattle.channel.specs.Laws.{well-formed-touched, well-formed-reset, well-formed-blank}
+use Rattle.channel.specs.State.{withLine, withFlags, withLatch}
+use Rattle.channel.specs.Touches.{resetsBy}
+use Rattle.channel.specs.Acts.{sendsOf, writeTo, writeAct, actOf}
+use Rattle.channel.specs.Step.{settledOf, stepAt, afterStep, touchedBy}
+use Rattle.channel.specs.Laws.{step-resets, well-formed-touched}
 use Rattle.device.specs.declared.side.Side.{Side}
 use Rattle.device.specs.declared.side.Side.the-variants as side
-use Rattle.device.specs.declared.effect.Effect.{Effect}
-use Rattle.device.specs.declared.effect.Effect.the-variants as effect
 use Rattle.device.specs.declared.device.Device.{Device}
+use Rattle.device.specs.declared.device.Stepped.{Stepped}
 use Rattle.device.specs.declared.device.Answer.the-variants as answer
-use Rattle.device.specs.Effects.{sideOf, resetsDevice, writeEffect, readEffect, effectOf}
-use Rattle.device.specs.Lent.{Advanced}
-use Rattle.device.specs.Device.{WellFormed, channelAt, withChannel, settingsAt, touchedAt, resetDevice, newDevice, effected, stepOf, answeredOf}
+use Rattle.device.specs.Reset.{settingsReset, linesReset, resetOf, blankChannel, resetDevice, newDevice}
+use Rattle.device.specs.Device.{WellFormed, channelAt, withChannel, sideNumbered, touchedAt, givenFor, namedStep, stepOf, answeredOf}
 
--- ---- what an event in range brings is in range
-abbrev pub EffectIn : Effect → Type 0
-EffectIn (effect.Touch t) = TouchIn t
-EffectIn effect.Reset = Unit {0}
-EffectIn effect.Nothing = Unit {0}
+-- ---- a reset through a channel is the act only: what the event touches there is what a reset makes anew
+both-hold : (x y : Bool) → x && y ≡ true → x ≡ true
+both-hold true y h = refl
+both-hold false y h = h
 
-pub effect-in : (s : Settings) (e : Event) → InRange e → EffectIn (effectOf s e)
-unfolding effectOf writeEffect readEffect
-effect-in s (event.Write channel address byte) range =
-    pick-by EffectIn (resetsDevice (registerAt s address) byte) (λ _. tt)
-    (λ _. pick-by EffectIn (same (registerAt s address) register.Closed) (λ _. tt) (λ _. tt))
-effect-in s (event.Read channel address) range = pick-by EffectIn (same (registerAt s address) register.Closed) (λ _. tt) (λ _. tt)
-effect-in s (event.Arrival channel byte mark) range = range .2
-effect-in s (event.Slot channel) range = tt
-effect-in s (event.Pins channel value) range = range .1
-effect-in s (event.Quiet channel) range = tt
-effect-in s event.Reset range = tt
-effect-in s event.IrqLook range = tt
-effect-in s (event.RtsLook channel) range = tt
+-- a write to IOControl
+io-control-forgotten : (ch : Channel) (written : Register) (byte : ℕ) → written ≡ register.IoControl
+    → (resetOf (afterStep ch (settledOf ch (writeTo ch written byte))) ≡ resetOf ch) × (settledOf ch (writeTo ch written byte) .reply ≡ 0)
+unfolding resetOf settingsReset afterStep settledOf settingOf ifSet withSetting clears sendsOf staysAs clearsAll afterOf withLine withFlags withLatch
+io-control-forgotten ch written byte e = rw e (refl, refl)
+
+pub reset-forgets : (ch : Channel) (t : Touch) → resetsBy (ch .settings) t ≡ true
+    → (resetOf (touchedBy ch t) ≡ resetOf ch) × (stepAt ch t .reply ≡ 0)
+unfolding resetsBy resetsDevice stepAt actOf writeAct
+reset-forgets ch (touch.Write address byte) h =
+    io-control-forgotten ch (registerAt (ch .settings) address) byte
+    (same-is (registerAt (ch .settings) address) register.IoControl (both-hold _ (bitAt byte 3) h))
+reset-forgets ch (touch.Read address) h = absurd (let z : _≡_ {A = ℕ} 0 1 = cc in omega arith)
+reset-forgets ch (touch.Arrival byte mark) h = absurd (let z : _≡_ {A = ℕ} 0 1 = cc in omega arith)
+reset-forgets ch touch.Slot h = absurd (let z : _≡_ {A = ℕ} 0 1 = cc in omega arith)
+reset-forgets ch (touch.Pins value) h = absurd (let z : _≡_ {A = ℕ} 0 1 = cc in omega arith)
+reset-forgets ch touch.Quiet h = absurd (let z : _≡_ {A = ℕ} 0 1 = cc in omega arith)
+reset-forgets ch touch.RtsLook h = absurd (let z : _≡_ {A = ℕ} 0 1 = cc in omega arith)
+
+-- the channel's record is put in its place and then all is reset, if the event resets the device
+pub reset-with : (d : Device) (at : Side) (ch : Channel) → resetOf ch ≡ resetOf (channelAt d at) → resetDevice (withChannel d at ch) ≡ resetDevice d
+unfolding resetDevice
+reset-with d side.A ch e = rw e
+reset-with d side.B ch e = rw e
+
+module _ (d : Device) (at : Side) (t : Touch) where
+  given-by : (resets : Bool) → resetsBy (channelAt d at .settings) t ≡ resets
+      → givenFor (withChannel d at (touchedBy (channelAt d at) t)) resets (stepAt (channelAt d at) t .reply)
+      ≡ pick resets (record { device = resetDevice d; reply = 0 }) (touchedAt d at t)
+  unfolding givenFor touchedAt
+  given-by true h =
+      let forgotten = reset-forgets (channelAt d at) t h in
+      rw (reset-with d at (touchedBy (channelAt d at) t) (forgotten .0), forgotten .1)
+  given-by false h = refl
+
+  pub named-in-turn : givenFor (withChannel d at (touchedBy (channelAt d at) t)) (stepAt (channelAt d at) t .resets) (stepAt (channelAt d at) t .reply)
+      ≡ namedStep d at t
+  unfolding namedStep
+  named-in-turn =
+      ap (λ (resets : Bool). givenFor (withChannel d at (touchedBy (channelAt d at) t)) resets (stepAt (channelAt d at) t .reply)) (step-resets (channelAt d at) t)
+      ∙ given-by (resetsBy (channelAt d at .settings) t) refl
 
 -- ---- a record stays well formed
 pub well-formed-at : (d : Device) (at : Side) → WellFormed d → channel.WellFormed (channelAt d at)
@@ -57,27 +95,51 @@ well-formed-with : (d : Device) (at : Side) (ch : Channel) → WellFormed d → 
 well-formed-with d side.A ch ok h = record { a-in = h; b-in = ok .b-in }
 well-formed-with d side.B ch ok h = record { a-in = ok .a-in; b-in = h }
 
+well-formed-reset : (ch : Channel) → channel.WellFormed ch → channel.WellFormed (resetOf ch)
+unfolding resetOf linesReset movedBy
+well-formed-reset ch ok =
+    record {
+      rx-in = well-formed-changed (ch .rx) Clear 64 (ok .rx-in) (omega arith);
+      tx-in = well-formed-changed (ch .tx) Clear 64 (ok .tx-in) (omega arith);
+      marks-in = marks-below-changed 8 (ch .rx) Clear 64 (ok .marks-in) tt;
+      quiet-in = omega arith;
+      pins-in = ok .pins-in;
+      changes-in = omega arith;
+    }
+
+well-formed-blank : channel.WellFormed blankChannel
+unfolding blankChannel linesReset
+well-formed-blank =
+    record {
+      rx-in = well-formed-empty;
+      tx-in = well-formed-empty;
+      marks-in = marks-below-empty 8 (omega arith);
+      quiet-in = omega arith;
+      pins-in = omega arith;
+      changes-in = omega arith;
+    }
+
 well-formed-reset-device : (d : Device) → WellFormed d → WellFormed (resetDevice d)
 unfolding resetDevice
-well-formed-reset-device d ok = record { a-in = well-formed-reset (d .a) 0x1D (ok .a-in); b-in = well-formed-reset (d .b) 0x1D (ok .b-in) }
+well-formed-reset-device d ok = record { a-in = well-formed-reset (d .a) (ok .a-in); b-in = well-formed-reset (d .b) (ok .b-in) }
 
 pub well-formed-new : WellFormed newDevice
 unfolding newDevice
 well-formed-new =
     well-formed-reset-device (record { a = blankChannel; b = blankChannel }) (record { a-in = well-formed-blank; b-in = well-formed-blank })
 
-well-formed-effected : (d : Device) (e : Event) (f : Effect) → EffectIn f → WellFormed d → WellFormed (effected d e f .device)
-unfolding touchedAt
-well-formed-effected d e (effect.Touch t) v ok =
-    well-formed-with d (sideOf e) (touchedOf (channelAt d (sideOf e)) t .channel) ok
-    (well-formed-touched (channelAt d (sideOf e)) t v (well-formed-at d (sideOf e) ok))
-well-formed-effected d e effect.Reset v ok = well-formed-reset-device d ok
-well-formed-effected d e effect.Nothing v ok = ok
+well-formed-named : (d : Device) (at : Side) (t : Touch) → TouchIn t → WellFormed d → WellFormed (namedStep d at t .device)
+unfolding namedStep touchedAt
+well-formed-named d at t v ok =
+    pick-by (λ (done : Stepped). WellFormed (done .device)) (resetsBy (channelAt d at .settings) t)
+    (λ _. well-formed-reset-device d ok)
+    (λ _. well-formed-with d at (touchedBy (channelAt d at) t) ok (well-formed-touched (channelAt d at) t v (well-formed-at d at ok)))
 
 pub well-formed-step : (d : Device) (e : Event) → InRange e → WellFormed d → WellFormed (stepOf d e .device)
 unfolding stepOf
-well-formed-step d e range ok =
-    well-formed-effected d e (effectOf (settingsAt d (sideOf e)) e) (effect-in (settingsAt d (sideOf e)) e range) ok
+well-formed-step d (event.At channel t) range ok = well-formed-named d (sideNumbered channel) t (range .1) ok
+well-formed-step d event.Reset range ok = well-formed-reset-device d ok
+well-formed-step d event.IrqLook range ok = ok
 
 -- what numbers or an event come to: in range, or refused
 abbrev pub MadeIn : Made → Type 0
@@ -100,10 +162,6 @@ unfolding answeredOf
 well-formed-answered d (made.Event e) range ok = well-formed-step d e range ok
 well-formed-answered d (made.Refused r) range ok = ok
 
--- and a lent one too
-pub well-formed-advanced : (d after : Device) (kind x y z number : ℕ) → WellFormed d → Advanced d (eventOf kind x y z) after number → WellFormed after
-well-formed-advanced d after kind x y z number ok done = rw (done .1) (well-formed-answered d (eventOf kind x y z) (made-in kind x y z) ok)
-
 -- ---- an event of one channel leaves the other channel's record exactly as it was, save a reset
 abbrev pub otherSide : Side → Side
 otherSide side.A = side.B
@@ -113,15 +171,10 @@ pub other-kept : (d : Device) (at : Side) (ch : Channel) → channelAt (withChan
 other-kept d side.A ch = refl
 other-kept d side.B ch = refl
 
-pub other-channel-alone : (d : Device) (e : Event) → (effectOf (settingsAt d (sideOf e)) e ≡ effect.Reset → ⊥)
-    → channelAt (stepOf d e .device) (otherSide (sideOf e)) ≡ channelAt d (otherSide (sideOf e))
-unfolding stepOf touchedAt
-other-channel-alone d e kept = go (effectOf (settingsAt d (sideOf e)) e) refl
-  where
-    go : (f : Effect) → effectOf (settingsAt d (sideOf e)) e ≡ f → channelAt (effected d e f .device) (otherSide (sideOf e)) ≡ channelAt d (otherSide (sideOf e))
-    go (effect.Touch t) h = other-kept d (sideOf e) (touchedOf (channelAt d (sideOf e)) t .channel)
-    go effect.Reset h = absurd (kept h)
-    go effect.Nothing h = refl
+pub other-channel-alone : (d : Device) (at : Side) (t : Touch) → resetsBy (channelAt d at .settings) t ≡ false
+    → channelAt (namedStep d at t .device) (otherSide at) ≡ channelAt d (otherSide at)
+unfolding namedStep touchedAt
+other-channel-alone d at t kept = rw kept (other-kept d at (touchedBy (channelAt d at) t))
 
 -- ---- a refused event leaves the device unchanged, and is answered by its refusal
 pub refused-unchanged : (d : Device) (m : Made) (r : Refusal) → m ≡ made.Refused r → answeredOf d m ≡ record { device = d; answer = answer.Refused r }

@@ -1,22 +1,16 @@
-// The device record, new and reset, and its step by value.
-use crate::course::Gave;
-use crate::course::resets_all;
-use crate::effect::Effect;
-use crate::effect::effect_at;
+// The device record and its step by value.
 use crate::side::Side;
-use crate::side::side_of;
+use crate::side::numbered;
 use bits::one_if;
 use channel::Channel;
 use event::Event;
 use event::Made;
 use event::Refusal;
+use event::Touch;
 use event::event_of;
-use registers::Settings;
-use registers::Touch;
 ghost use mathlib.Core.Path.{_≡_};
 ghost use Rattle.event.specs.Events.{eventOf, judgedOf};
-ghost use Rattle.device.specs.Device.{WellFormed, settingsAt, touchedAt, rtsAt, irqAt, lookReply, resetDevice, newDevice, stepOf, answeredOf};
-ghost use Rattle.device.specs.Course.{elsewhereOf};
+ghost use Rattle.device.specs.Device.{WellFormed, givenFor, namedStep, irqAt, stepOf, answeredOf, answerNumber};
 
 #[repr(C)]
 pub struct Device {
@@ -41,85 +35,63 @@ pub struct Outcome {
     pub answer: Answer,
 }
 
+impl Answer {
+    // What a refusal's number is added to. Replies go up to 256.
+    pub const REFUSED: u32 = 512;
+
+    // The answer as one number: the reply, or the refusal above all replies.
+    pub fn number(self) -> u32
+        ensures { λ r. ⌜ r ≡ answerNumber self ⌝ }
+    {
+        match self {
+            Answer::Reply(reply) => reply as u32,
+            Answer::Refused(refusal) => Answer::REFUSED + (refusal.number() as u32),
+        }
+    }
+}
+
 impl Device {
-    // LCR after a reset.
-    pub const RESET_LCR: u8 = 0x1D;
-
-    // A new device: a reset one, every byte that a reset keeps and the pins 0.
-    pub fn new() -> Device
-        ensures { λ r. ⌜ r ≡ newDevice ⌝ }
+    // With the reply, and reset if the event resets the device.
+    fn given(self, resets: bool, reply: u16) -> Stepped
+        ensures { λ r. ⌜ r ≡ givenFor self resets reply ⌝ }
     {
-        let a = Channel::blank();
-        let b = Channel::blank();
-        let blank = Device { a: a, b: b };
-        blank.reset()
-    }
-
-    // Both channels reset.
-    pub fn reset(self) -> Device
-        requires { ⌜ WellFormed self ⌝ }
-        ensures { λ r. ⌜ r ≡ resetDevice self ⌝ }
-    {
-        let a = self.a;
-        let b = self.b;
-        let reset_a = a.reset(Device::RESET_LCR);
-        let reset_b = b.reset(Device::RESET_LCR);
-        Device {
-            a: reset_a,
-            b: reset_b,
+        if resets {
+            return Stepped {
+                device: self.reset(),
+                reply: reply,
+            };
+        }
+        Stepped {
+            device: self,
+            reply: reply,
         }
     }
 
-    fn settings(self, side: Side) -> Settings
-        ensures { λ r. ⌜ r ≡ settingsAt self side ⌝ }
-    {
-        match side {
-            Side::A => self.a.settings,
-            Side::B => self.b.settings,
-        }
-    }
-
-    // One channel touched, the other as it was.
-    fn touched(self, side: Side, touch: Touch) -> Stepped
+    // The step on an event that names a channel; the other channel stays as it was.
+    fn named(self, side: Side, touch: Touch) -> Stepped
         requires { ⌜ WellFormed self ⌝ }
-        ensures { λ r. ⌜ r ≡ touchedAt self side touch ⌝ }
+        ensures { λ r. ⌜ r ≡ namedStep self side touch ⌝ }
     {
         let a = self.a;
         let b = self.b;
         match side {
             Side::A => {
-                let done = a.touched(touch);
-                let now = done.channel;
+                let step = a.step(touch);
+                let now = a.after(step);
                 let device = Device { a: now, b: b };
-                Stepped {
-                    device: device,
-                    reply: done.reply,
-                }
+                device.given(step.resets, step.reply)
             }
             Side::B => {
-                let done = b.touched(touch);
-                let now = done.channel;
+                let step = b.step(touch);
+                let now = b.after(step);
                 let device = Device { a: a, b: now };
-                Stepped {
-                    device: device,
-                    reply: done.reply,
-                }
+                device.given(step.resets, step.reply)
             }
         }
     }
 
-    fn rts(self, side: Side) -> bool
-        ensures { λ r. ⌜ r ≡ rtsAt self side ⌝ }
-    {
-        let a = self.a;
-        let b = self.b;
-        match side {
-            Side::A => a.rts(),
-            Side::B => b.rts(),
-        }
-    }
-
-    fn irq(self) -> bool
+    // Whether either channel has an interrupt pending.
+    pub fn irq(self) -> bool
         requires { ⌜ WellFormed self ⌝ }
         ensures { λ r. ⌜ r ≡ irqAt self ⌝ }
     {
@@ -128,54 +100,20 @@ impl Device {
         a.pending().pending() | b.pending().pending()
     }
 
-    // The reply to an event that does nothing to the record: a look's, or the 0 of a closed address.
-    fn look(self, event: Event) -> u16
-        requires { ⌜ WellFormed self ⌝ }
-        ensures { λ r. ⌜ r ≡ lookReply self event ⌝ }
-    {
-        match event {
-            Event::Write {
-                channel: _,
-                address: _,
-                byte: _,
-            } => 0,
-            Event::Read {
-                channel: _,
-                address: _,
-            } => 0,
-            Event::Arrival {
-                channel: _,
-                byte: _,
-                mark: _,
-            } => 0,
-            Event::Slot { channel: _ } => 0,
-            Event::Pins {
-                channel: _,
-                value: _,
-            } => 0,
-            Event::Quiet { channel: _ } => 0,
-            Event::Reset => 0,
-            Event::IrqLook => one_if(self.irq()) as u16,
-            Event::RtsLook { channel: _ } => one_if(self.rts(side_of(event))) as u16,
-        }
-    }
-
     // The step on an event whose values are in range.
     fn stepped(self, event: Event) -> Stepped
         requires { ⌜ WellFormed self ⌝ }
         ensures { λ r. ⌜ r ≡ stepOf self event ⌝ }
     {
-        let at = side_of(event);
-        let effect = effect_at(self.settings(at), event);
-        match effect {
-            Effect::Touch(touch) => self.touched(at, touch),
-            Effect::Reset => Stepped {
+        match event {
+            Event::At { channel, touch } => self.named(numbered(channel), touch),
+            Event::Reset => Stepped {
                 device: self.reset(),
                 reply: 0,
             },
-            Effect::Nothing => Stepped {
+            Event::IrqLook => Stepped {
                 device: self,
-                reply: self.look(event),
+                reply: one_if(self.irq()) as u16,
             },
         }
     }
@@ -214,25 +152,5 @@ impl Device {
         ensures { λ r. ⌜ r ≡ answeredOf self (eventOf kind x y z) ⌝ }
     {
         self.answered(event_of(kind, x, y, z))
-    }
-
-    // What is given for an event that touches neither channel.
-    pub fn elsewhere(self, made: Made) -> Gave
-        requires { ⌜ WellFormed self ⌝ }
-        ensures { λ r. ⌜ r ≡ elsewhereOf self made ⌝ }
-    {
-        match made {
-            Made::Event(event) => Gave {
-                resets: resets_all(event),
-                number: self.look(event) as u32,
-            },
-            Made::Refused(refusal) => {
-                let answer = Answer::Refused(refusal);
-                Gave {
-                    resets: false,
-                    number: answer.number(),
-                }
-            }
-        }
     }
 }

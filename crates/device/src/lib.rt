@@ -1,8 +1,6 @@
-// The chip: two channels, and the step that takes an event to a reply and the next record.
-mod course;
+// The chip: two channels, new and reset, and the step that takes an event to an answer and the next record.
 mod device;
-mod effect;
-mod lent;
+mod reset;
 mod side;
 
 pub use device::Answer;

@@ -1,12 +1,20 @@
--- "Events and replies": the nine kinds with their operands, made from plain numbers.
+-- Definitions: "Events and replies": the nine kinds with their operands, made from plain numbers.
 use Prim.Native.Nat.{ℕ, _<_}
+use mathlib.Core.List.{[], _∷_}
+use lib.ListN.{getD}
 use lib.Dec.{eqb, ltb}
 use Rattle.bits.specs.Choice.{pick}
 use Rattle.event.specs.declared.refusal.Refusal.the-variants as refusal
+use Rattle.event.specs.declared.events.Touch.{Touch}
+use Rattle.event.specs.declared.events.Touch.the-variants as touch
 use Rattle.event.specs.declared.events.Event.{Event}
 use Rattle.event.specs.declared.events.Event.the-variants as event
 use Rattle.event.specs.declared.events.Made.{Made}
 use Rattle.event.specs.declared.events.Made.the-variants as made
+
+-- the column "operands" of the table of kinds, counted
+abbrev pub operandCount : ℕ → ℕ
+operandCount kind = getD (3 ∷ 2 ∷ 3 ∷ 1 ∷ 2 ∷ 1 ∷ 0 ∷ 0 ∷ 1 ∷ []) kind 0
 
 -- the refusals that an operand out of its range meets, 4 to 8
 abbrev pub channelIn : ℕ → Made → Made
@@ -24,16 +32,20 @@ markIn mark else-made = pick (ltb 7 mark) (made.Refused refusal.Mark) else-made
 abbrev pub pinsIn : ℕ → Made → Made
 pinsIn value else-made = pick (ltb 15 value) (made.Refused refusal.Pins) else-made
 
+-- the event of what happens at a channel
+abbrev pub eventAt : ℕ → Touch → Made
+eventAt channel t = made.Event (event.At channel t)
+
 -- the event of a kind that names a channel, by its further operands
 unfoldable pub onChannel : ℕ → ℕ → ℕ → ℕ → Made
 onChannel kind channel y z =
-    pick (eqb kind 0) (addressIn y (byteIn z (made.Event (event.Write channel y z))))
-    (pick (eqb kind 1) (addressIn y (made.Event (event.Read channel y)))
-    (pick (eqb kind 2) (byteIn y (markIn z (made.Event (event.Arrival channel y z))))
-    (pick (eqb kind 3) (made.Event (event.Slot channel))
-    (pick (eqb kind 4) (pinsIn y (made.Event (event.Pins channel y)))
-    (pick (eqb kind 5) (made.Event (event.Quiet channel))
-    (made.Event (event.RtsLook channel)))))))
+    pick (eqb kind 0) (addressIn y (byteIn z (eventAt channel (touch.Write y z))))
+    (pick (eqb kind 1) (addressIn y (eventAt channel (touch.Read y)))
+    (pick (eqb kind 2) (byteIn y (markIn z (eventAt channel (touch.Arrival y z))))
+    (pick (eqb kind 3) (eventAt channel touch.Slot)
+    (pick (eqb kind 4) (pinsIn y (eventAt channel (touch.Pins y)))
+    (pick (eqb kind 5) (eventAt channel touch.Quiet)
+    (eventAt channel touch.RtsLook))))))
 
 -- "judge 3 and then 4 to 8; operands that the kind lacks aren't looked at"
 unfoldable pub eventOf : ℕ → ℕ → ℕ → ℕ → Made
@@ -50,29 +62,35 @@ pub record Numbers : Type 0 where
   pub y : ℕ
   pub z : ℕ
 
+abbrev pub numbersAt : ℕ → Touch → Numbers
+numbersAt channel (touch.Write address byte) = record { kind = 0; x = channel; y = address; z = byte }
+numbersAt channel (touch.Read address) = record { kind = 1; x = channel; y = address; z = 0 }
+numbersAt channel (touch.Arrival byte mark) = record { kind = 2; x = channel; y = byte; z = mark }
+numbersAt channel touch.Slot = record { kind = 3; x = channel; y = 0; z = 0 }
+numbersAt channel (touch.Pins value) = record { kind = 4; x = channel; y = value; z = 0 }
+numbersAt channel touch.Quiet = record { kind = 5; x = channel; y = 0; z = 0 }
+numbersAt channel touch.RtsLook = record { kind = 8; x = channel; y = 0; z = 0 }
+
 abbrev pub numbersOf : Event → Numbers
-numbersOf (event.Write channel address byte) = record { kind = 0; x = channel; y = address; z = byte }
-numbersOf (event.Read channel address) = record { kind = 1; x = channel; y = address; z = 0 }
-numbersOf (event.Arrival channel byte mark) = record { kind = 2; x = channel; y = byte; z = mark }
-numbersOf (event.Slot channel) = record { kind = 3; x = channel; y = 0; z = 0 }
-numbersOf (event.Pins channel value) = record { kind = 4; x = channel; y = value; z = 0 }
-numbersOf (event.Quiet channel) = record { kind = 5; x = channel; y = 0; z = 0 }
+numbersOf (event.At channel t) = numbersAt channel t
 numbersOf event.Reset = record { kind = 6; x = 0; y = 0; z = 0 }
 numbersOf event.IrqLook = record { kind = 7; x = 0; y = 0; z = 0 }
-numbersOf (event.RtsLook channel) = record { kind = 8; x = channel; y = 0; z = 0 }
 
 -- an event judged by its own numbers: itself, or its refusal
 unfoldable pub judgedOf : Event → Made
 judgedOf e = eventOf (numbersOf e .kind) (numbersOf e .x) (numbersOf e .y) (numbersOf e .z)
 
 -- an event whose values are all in range
+abbrev pub TouchIn : Touch → Type 0
+TouchIn (touch.Write address byte) = (address < 16) × (byte < 256)
+TouchIn (touch.Read address) = address < 16
+TouchIn (touch.Arrival byte mark) = (byte < 256) × (mark < 8)
+TouchIn touch.Slot = Unit {0}
+TouchIn (touch.Pins value) = value < 16
+TouchIn touch.Quiet = Unit {0}
+TouchIn touch.RtsLook = Unit {0}
+
 abbrev pub InRange : Event → Type 0
-InRange (event.Write channel address byte) = (channel < 2) × (address < 16) × (byte < 256)
-InRange (event.Read channel address) = (channel < 2) × (address < 16)
-InRange (event.Arrival channel byte mark) = (channel < 2) × (byte < 256) × (mark < 8)
-InRange (event.Slot channel) = channel < 2
-InRange (event.Pins channel value) = (channel < 2) × (value < 16)
-InRange (event.Quiet channel) = channel < 2
+InRange (event.At channel t) = (channel < 2) × TouchIn t
 InRange event.Reset = Unit {0}
 InRange event.IrqLook = Unit {0}
-InRange (event.RtsLook channel) = channel < 2

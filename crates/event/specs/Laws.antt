@@ -1,17 +1,19 @@
--- What follows from the definitions of numbers and events, each thing once over the number or the operand.
+-- Laws: what follows from the definitions of numbers and events, each thing once over the number or the operand.
 use Prim.Native.Nat.{ℕ, _+_, _*_, _/_, _%_, _<_, _≤_}
 use native.Mathlib.Nat.{add-zero}
 use native.Mathlib.Numerals.{add-one}
 use native.Mathlib.Omega.{arith}
 use mathlib.Core.Path.{_≡_, refl, sym, ap, _∙_}
 use mathlib.Core.Bool.{Bool, true, false, _||_}
-use mathlib.Core.List.{List, [], _∷_, _++_, append-nil, append-assoc}
+use mathlib.Core.List.{List, [], _∷_, _++_, append-assoc}
 use lib.ListN.{length, getD, drop, length-drop, length-append}
 use lib.Seq.{getD-drop, drop-cons, drop-drop, drop-append-seam}
 use lib.Dec.{eqb, ltb, leb}
 use borrow.Author.Tests.{lt-ltb, le-ltb, lt-leb, ne-eqb, leb-false, eqb-true, eqb-false, ltb-true, ltb-false}
 use Rattle.bits.specs.Choice.{pick, pick-by}
 use Rattle.event.specs.declared.refusal.Refusal.{Refusal}
+use Rattle.event.specs.declared.events.Touch.{Touch}
+use Rattle.event.specs.declared.events.Touch.the-variants as touch
 use Rattle.event.specs.declared.events.Event.{Event}
 use Rattle.event.specs.declared.events.Event.the-variants as event
 use Rattle.event.specs.declared.events.Made.{Made}
@@ -21,10 +23,10 @@ use Rattle.event.specs.declared.number.Number.the-variants as number
 use Rattle.event.specs.declared.reading.Reading.{Reading}
 use Rattle.event.specs.declared.reading.Reading.the-variants as reading
 use Rattle.event.specs.Refusals.{refusalNumber}
-use Rattle.event.specs.Events.{onChannel, eventOf, Numbers, numbersOf, judgedOf, InRange}
+use Rattle.event.specs.Events.{operandCount, onChannel, eventOf, Numbers, numbersOf, judgedOf, InRange}
 use Rattle.event.specs.Numbers.{groups, secondBroken, secondAt, numberAt, operandAt}
-use Rattle.event.specs.Reading.{operandCount, andThen, placed, operandsAt, readAt}
-use Rattle.event.specs.Writing.{bytesOf}
+use Rattle.event.specs.Reading.{andThen, placed, operandsAt, readAt}
+use Rattle.event.specs.Writing.{operandBytes, numberBytes, bytesOf}
 
 -- ---- a number as it is written
 pub one-group : (n : ℕ) → n < 128 → groups n ≡ n ∷ []
@@ -38,26 +40,14 @@ two-groups n low high e marked fits some =
     let second : n / 128 ≡ high = omega arith in
     rw (le-ltb n 128 (omega arith), first, second)
 
--- an operand that the kind has, as it is written; nothing where it has none
-abbrev operandBytes : Bool → ℕ → List ℕ
-operandBytes wanted n = pick wanted (groups n) []
-
--- a kind and its operands, as they are written
-abbrev pub numberBytes : ℕ → ℕ → ℕ → ℕ → List ℕ
-numberBytes kind x y z =
-    groups kind
-    ++ operandBytes (ltb 0 (operandCount kind)) x
-    ++ operandBytes (ltb 1 (operandCount kind)) y
-    ++ operandBytes (ltb 2 (operandCount kind)) z
-
 -- an operand as an event holds it: within two groups, and 0 where the kind has none
 abbrev Operand : Bool → ℕ → Type 0
 Operand wanted n = (n < 16384) × (n ≡ pick wanted n 0)
 
 -- ---- what numbers come to: an event in range whose bytes are those of the numbers, or a refusal of 3 for the kind and of 4 to 8 for an operand
-abbrev pub MadeOf : ℕ → ℕ → ℕ → ℕ → Made → Type 0
-MadeOf kind x y z (made.Event e) = InRange e × (bytesOf e ≡ numberBytes kind x y z)
-MadeOf kind x y z (made.Refused r) = (kind ≤ 8 → 4 ≤ refusalNumber r) × (refusalNumber r ≤ 8)
+abbrev MadeOf : Numbers → Made → Type 0
+MadeOf n (made.Event e) = InRange e × (bytesOf e ≡ numberBytes n)
+MadeOf n (made.Refused r) = (n .kind ≤ 8 → 4 ≤ refusalNumber r) × (refusalNumber r ≤ 8)
 
 module _ (P : Made → Type 0) where
   within : (limit n : ℕ) {r : Refusal} {m : Made} → (limit < n → P (made.Refused r)) → (n ≤ limit → P m)
@@ -72,52 +62,37 @@ module _ (P : Made → Type 0) where
 
 module _ (kind x y z : ℕ) where
   abbrev P : Made → Type 0
-  P = MadeOf kind x y z
+  P = MadeOf (record { kind = kind; x = x; y = y; z = z })
 
-  on-channel-made : kind ≤ 8 → (kind ≡ 6 → ⊥) → (kind ≡ 7 → ⊥) → x ≤ 1 → MadeOf kind x y z (onChannel kind x y z)
+  on-channel-made : kind ≤ 8 → (kind ≡ 6 → ⊥) → (kind ≡ 7 → ⊥) → x ≤ 1 → P (onChannel kind x y z)
   unfolding onChannel bytesOf
   on-channel-made known not-6 not-7 channel =
       in-turn P kind 0 (omega arith)
       (λ k. within P 15 y (λ _. omega arith) (λ address. within P 255 z (λ _. omega arith) (λ byte. (omega arith, simp k))))
       (λ from. in-turn P kind 1 from
-      (λ k. within P 15 y (λ _. omega arith) (λ address. (omega arith, simp (k, append-nil))))
+      (λ k. within P 15 y (λ _. omega arith) (λ address. (omega arith, simp k)))
       (λ from. in-turn P kind 2 from
       (λ k. within P 255 y (λ _. omega arith) (λ byte. within P 7 z (λ _. omega arith) (λ mark. (omega arith, simp k))))
       (λ from. in-turn P kind 3 from
-      (λ k. (omega arith, simp (k, append-nil)))
+      (λ k. (omega arith, simp k))
       (λ from. in-turn P kind 4 from
-      (λ k. within P 15 y (λ _. omega arith) (λ value. (omega arith, simp (k, append-nil))))
+      (λ k. within P 15 y (λ _. omega arith) (λ value. (omega arith, simp k)))
       (λ from. in-turn P kind 5 from
-      (λ k. (omega arith, simp (k, append-nil)))
-      (λ from. let k : kind ≡ 8 = omega arith in (omega arith, simp (k, append-nil))))))))
+      (λ k. (omega arith, simp k))
+      (λ from. let k : kind ≡ 8 = omega arith in (omega arith, simp k)))))))
 
-  pub made-of : MadeOf kind x y z (eventOf kind x y z)
+  made-of : P (eventOf kind x y z)
   unfolding eventOf bytesOf
   made-of =
       within P 8 kind (λ unknown. omega arith)
-      (λ known. of-kind P kind 6 (λ k. (tt, simp (k, append-nil)))
-      (λ not-6. of-kind P kind 7 (λ k. (tt, simp (k, append-nil)))
+      (λ known. of-kind P kind 6 (λ k. (tt, simp k))
+      (λ not-6. of-kind P kind 7 (λ k. (tt, simp k))
       (λ not-7. within P 1 x (λ _. omega arith) (λ channel. on-channel-made known not-6 not-7 channel))))
 
   pub made-in-range : {e : Event} → eventOf kind x y z ≡ made.Event e → InRange e
   made-in-range made = (rw made at made-of) .0
 
--- ---- an event in range is the one that its own numbers make
-pub in-range-judged : (e : Event) → InRange e → judgedOf e ≡ made.Event e
-unfolding judgedOf eventOf onChannel
-in-range-judged (event.Write channel address byte) range =
-    rw (le-ltb 1 channel (omega arith), le-ltb 15 address (omega arith), le-ltb 255 byte (omega arith))
-in-range-judged (event.Read channel address) range = rw (le-ltb 1 channel (omega arith), le-ltb 15 address (omega arith))
-in-range-judged (event.Arrival channel byte mark) range =
-    rw (le-ltb 1 channel (omega arith), le-ltb 255 byte (omega arith), le-ltb 7 mark (omega arith))
-in-range-judged (event.Slot channel) range = rw (le-ltb 1 channel (omega arith))
-in-range-judged (event.Pins channel value) range = rw (le-ltb 1 channel (omega arith), le-ltb 15 value (omega arith))
-in-range-judged (event.Quiet channel) range = rw (le-ltb 1 channel (omega arith))
-in-range-judged event.Reset range = refl
-in-range-judged event.IrqLook range = refl
-in-range-judged (event.RtsLook channel) range = rw (le-ltb 1 channel (omega arith))
-
--- its numbers are small, and 0 where the kind has no such operand
+-- ---- an event in range is the one that its own numbers make; they are small, and 0 where the kind has no such operand
 abbrev Small : Numbers → Type 0
 Small n =
     (n .kind ≤ 8)
@@ -125,16 +100,29 @@ Small n =
     × Operand (ltb 1 (operandCount (n .kind))) (n .y)
     × Operand (ltb 2 (operandCount (n .kind))) (n .z)
 
-pub in-range-small : (e : Event) → InRange e → Small (numbersOf e)
-in-range-small (event.Write channel address byte) range = omega arith
-in-range-small (event.Read channel address) range = omega arith
-in-range-small (event.Arrival channel byte mark) range = omega arith
-in-range-small (event.Slot channel) range = omega arith
-in-range-small (event.Pins channel value) range = omega arith
-in-range-small (event.Quiet channel) range = omega arith
-in-range-small event.Reset range = omega arith
-in-range-small event.IrqLook range = omega arith
-in-range-small (event.RtsLook channel) range = omega arith
+abbrev Known : Event → Type 0
+Known e = (judgedOf e ≡ made.Event e) × Small (numbersOf e)
+
+touch-known : (channel : ℕ) (t : Touch) → InRange (event.At channel t) → Known (event.At channel t)
+unfolding judgedOf eventOf onChannel
+touch-known channel (touch.Write address byte) range =
+    (rw (le-ltb 1 channel (omega arith), le-ltb 15 address (omega arith), le-ltb 255 byte (omega arith)), omega arith)
+touch-known channel (touch.Read address) range = (rw (le-ltb 1 channel (omega arith), le-ltb 15 address (omega arith)), omega arith)
+touch-known channel (touch.Arrival byte mark) range =
+    (rw (le-ltb 1 channel (omega arith), le-ltb 255 byte (omega arith), le-ltb 7 mark (omega arith)), omega arith)
+touch-known channel touch.Slot range = (rw (le-ltb 1 channel (omega arith)), omega arith)
+touch-known channel (touch.Pins value) range = (rw (le-ltb 1 channel (omega arith), le-ltb 15 value (omega arith)), omega arith)
+touch-known channel touch.Quiet range = (rw (le-ltb 1 channel (omega arith)), omega arith)
+touch-known channel touch.RtsLook range = (rw (le-ltb 1 channel (omega arith)), omega arith)
+
+pub in-range-known : (e : Event) → InRange e → Known e
+unfolding judgedOf eventOf
+in-range-known (event.At channel t) range = touch-known channel t range
+in-range-known event.Reset range = (refl, omega arith)
+in-range-known event.IrqLook range = (refl, omega arith)
+
+pub in-range-judged : (e : Event) → InRange e → judgedOf e ≡ made.Event e
+in-range-judged e range = in-range-known e range .0
 
 -- ---- a number or an operand that was read: it ends inside the input, and in a list of bytes it stands there as it is written
 abbrev pub Bytes : List ℕ → Type 0
@@ -226,9 +214,8 @@ module _ (s : List ℕ) (at n : ℕ) (rest : List ℕ) where
   operand-back false small stands = rw (small .1, add-zero)
 
 -- ---- numbers that were written come to what they make, at the place past them
-pub numbers-back : (s : List ℕ) (at : ℕ) (n : Numbers) (rest : List ℕ) → length s ≤ 65536 → Small n
-    → drop at s ≡ numberBytes (n .kind) (n .x) (n .y) (n .z) ++ rest
-    → readAt s at ≡ placed (eventOf (n .kind) (n .x) (n .y) (n .z)) (at + length (numberBytes (n .kind) (n .x) (n .y) (n .z)))
+pub numbers-back : (s : List ℕ) (at : ℕ) (n : Numbers) (rest : List ℕ) → length s ≤ 65536 → Small n → drop at s ≡ numberBytes n ++ rest
+    → readAt s at ≡ placed (eventOf (n .kind) (n .x) (n .y) (n .z)) (at + length (numberBytes n))
 unfolding readAt operandsAt
 numbers-back s at n rest short small stands =
     let k : List ℕ = groups (n .kind) in
@@ -257,10 +244,10 @@ module _ (s : List ℕ) (at : ℕ) where
   read-on wanted p (number.Value n next) f from then = then n next from
   read-on wanted p (number.Broken r) f from then = omega arith
 
-  placed-from : (kind x y z next : ℕ) (m : Made) → MadeOf kind x y z m → kind ≤ 8 → at < next → next ≤ length s
-      → (Bytes s → drop at s ≡ numberBytes kind x y z ++ drop next s) → ReadingFrom s at (placed m next)
-  placed-from kind x y z next (made.Event e) made known past inside stands = (past, inside, made .0, λ bytes. rw (made .1) (stands bytes))
-  placed-from kind x y z next (made.Refused r) made known past inside stands = (past, inside, made .0 known, made .1)
+  placed-from : (n : Numbers) (next : ℕ) (m : Made) → MadeOf n m → n .kind ≤ 8 → at < next → next ≤ length s
+      → (Bytes s → drop at s ≡ numberBytes n ++ drop next s) → ReadingFrom s at (placed m next)
+  placed-from n next (made.Event e) made known past inside stands = (past, inside, made .0, λ bytes. rw (made .1) (stands bytes))
+  placed-from n next (made.Refused r) made known past inside stands = (past, inside, made .0 known, made .1)
 
   operands-from : (kind p : ℕ) → kind ≤ 8 → ReadFrom s true at (number.Value kind p) → ReadingFrom s at (operandsAt s kind p)
   unfolding operandsAt
@@ -268,7 +255,7 @@ module _ (s : List ℕ) (at : ℕ) where
       read-on (ltb 0 (operandCount kind)) p (operandAt s (ltb 0 (operandCount kind)) p) _ (operand-from s p _ (k .1)) (λ x q kx.
       read-on (ltb 1 (operandCount kind)) q (operandAt s (ltb 1 (operandCount kind)) q) _ (operand-from s q _ (kx .1)) (λ y r ky.
       read-on (ltb 2 (operandCount kind)) r (operandAt s (ltb 2 (operandCount kind)) r) _ (operand-from s r _ (ky .1)) (λ z next kz.
-      placed-from kind x y z next (eventOf kind x y z) (made-of kind x y z) known (omega arith) (kz .1) (λ bytes.
+      placed-from _ next (eventOf kind x y z) (made-of kind x y z) known (omega arith) (kz .1) (λ bytes.
       rw (k .2 bytes, kx .2 bytes, ky .2 bytes, kz .2 bytes) (simp append-assoc)))))
 
   pub reading-from : ReadingFrom s at (readAt s at)

@@ -1,4 +1,5 @@
--- "each a number in groups of seven bits, lowest group first, top bit set if a group follows. One or two groups, shortest form only."
+-- Definitions: "each a number in groups of seven bits, lowest group first, top bit set if a group follows. One or two groups,
+-- shortest form only."
 use Prim.Native.Nat.{ℕ, _+_, _*_, _/_, _%_}
 use mathlib.Core.Bool.{Bool, _||_}
 use mathlib.Core.List.{List, [], _∷_}

@@ -1,7 +1,7 @@
--- "Event file and refusal numbers": the event at a place of an input.
+-- Definitions: "Event file and refusal numbers": the event at a place of an input.
 use Prim.Native.Nat.{ℕ}
-use mathlib.Core.List.{List, [], _∷_}
-use lib.ListN.{length, getD}
+use mathlib.Core.List.{List}
+use lib.ListN.{length}
 use lib.Dec.{ltb, leb}
 use Rattle.bits.specs.Choice.{pick}
 use Rattle.event.specs.declared.refusal.Refusal.the-variants as refusal
@@ -11,12 +11,8 @@ use Rattle.event.specs.declared.number.Number.{Number}
 use Rattle.event.specs.declared.number.Number.the-variants as number
 use Rattle.event.specs.declared.reading.Reading.{Reading}
 use Rattle.event.specs.declared.reading.Reading.the-variants as reading
-use Rattle.event.specs.Events.{eventOf}
+use Rattle.event.specs.Events.{operandCount, eventOf}
 use Rattle.event.specs.Numbers.{numberAt, operandAt}
-
--- the column "operands" of the table of kinds, counted
-abbrev pub operandCount : ℕ → ℕ
-operandCount kind = getD (3 ∷ 2 ∷ 3 ∷ 1 ∷ 2 ∷ 1 ∷ 0 ∷ 0 ∷ 1 ∷ []) kind 0
 
 -- "1 or 2 at the number where it occurs": a broken number ends the run, and any other is read on from
 abbrev pub andThen : Number → (ℕ → ℕ → Reading) → Reading

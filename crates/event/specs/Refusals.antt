@@ -1,4 +1,4 @@
--- The refusals by document 01's numbers.
+-- Definitions: the refusals by document 01's numbers.
 use Prim.Native.Nat.{ℕ}
 use Rattle.event.specs.declared.refusal.Refusal.{Refusal}
 use Rattle.event.specs.declared.refusal.Refusal.the-variants as refusal

@@ -1,4 +1,4 @@
--- What is written reads back, what reads as an event stands there in the one written form, and reading moves forward.
+-- Laws: what is written reads back, what reads as an event stands there in the one written form, and reading moves forward.
 use Prim.Native.Nat.{ℕ, _+_, _<_, _≤_}
 use native.Mathlib.Omega.{arith}
 use mathlib.Core.Path.{_≡_, refl, ap}
@@ -10,10 +10,10 @@ use Rattle.event.specs.declared.events.Event.{Event}
 use Rattle.event.specs.declared.events.Made.the-variants as made
 use Rattle.event.specs.declared.reading.Reading.the-variants as reading
 use Rattle.event.specs.Refusals.{refusalNumber}
-use Rattle.event.specs.Events.{eventOf, Numbers, numbersOf, judgedOf, InRange}
+use Rattle.event.specs.Events.{eventOf, numbersOf, judgedOf, InRange}
 use Rattle.event.specs.Reading.{readAt}
 use Rattle.event.specs.Writing.{bytesOf, padded, wholeOf, writtenOf}
-use Rattle.event.specs.Laws.{Bytes, made-of, made-in-range, in-range-judged, in-range-small, numberBytes, numbers-back, ReadingFrom, reading-from}
+use Rattle.event.specs.Laws.{Bytes, made-in-range, in-range-judged, in-range-known, numbers-back, ReadingFrom, reading-from}
 
 -- the bytes that the writer gives for numbers, up to its count, are the bytes of the event that they make
 pub written-bytes : (kind x y z : ℕ) {e : Event} → eventOf kind x y z ≡ made.Event e
@@ -26,12 +26,9 @@ module _ (s : List ℕ) (at : ℕ) where
   -- the bytes of an event read back as that event, whatever stands before them and after
   pub bytes-read-back : (e : Event) (rest : List ℕ) → length s ≤ 65536 → InRange e → drop at s ≡ bytesOf e ++ rest
       → readAt s at ≡ reading.Event e (at + length (bytesOf e))
-  unfolding judgedOf
+  unfolding judgedOf bytesOf
   bytes-read-back e rest short range stands =
-      let n : Numbers = numbersOf e in
-      let judged : eventOf (n .kind) (n .x) (n .y) (n .z) ≡ made.Event e = in-range-judged e range in
-      let bytes : bytesOf e ≡ numberBytes (n .kind) (n .x) (n .y) (n .z) = (rw judged at (made-of (n .kind) (n .x) (n .y) (n .z))) .1 in
-      rw bytes (rw judged at (numbers-back s at n rest short (in-range-small e range) (rw bytes at stands)))
+      rw (in-range-judged e range) at (numbers-back s at (numbersOf e) rest short (in-range-known e range .1) stands)
 
   -- and so do the bytes that the writer gives for its numbers
   pub written-reads-back : (kind x y z : ℕ) {e : Event} (rest : List ℕ) → length s ≤ 65536 → eventOf kind x y z ≡ made.Event e

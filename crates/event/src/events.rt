@@ -1,18 +1,24 @@
 // The nine kinds of event, and an event made from plain numbers.
 use crate::refusal::Refusal;
 ghost use mathlib.Core.Path.{_≡_};
-ghost use Rattle.event.specs.Events.{onChannel, eventOf, judgedOf, addressIn, byteIn, markIn, pinsIn};
+ghost use Rattle.event.specs.Events.{eventAt, onChannel, eventOf, judgedOf, addressIn, byteIn, markIn, pinsIn};
 
+// What happens at the channel that an event names.
+pub enum Touch {
+    Write { address: u8, byte: u8 },
+    Read { address: u8 },
+    Arrival { byte: u8, mark: u8 },
+    Slot,
+    Pins { value: u8 },
+    Quiet,
+    RtsLook,
+}
+
+// An event names a channel and says what happens there, or is one of the whole device.
 pub enum Event {
-    Write { channel: u8, address: u8, byte: u8 },
-    Read { channel: u8, address: u8 },
-    Arrival { channel: u8, byte: u8, mark: u8 },
-    Slot { channel: u8 },
-    Pins { channel: u8, value: u8 },
-    Quiet { channel: u8 },
+    At { channel: u8, touch: Touch },
     Reset,
     IrqLook,
-    RtsLook { channel: u8 },
 }
 
 // What numbers come to: an event with its values in range, or a refusal.
@@ -21,8 +27,17 @@ pub enum Made {
     Refused(Refusal),
 }
 
+fn at(channel: u8, touch: Touch) -> Made
+    ensures { λ r. ⌜ r ≡ eventAt channel touch ⌝ }
+{
+    Made::Event(Event::At {
+        channel: channel,
+        touch: touch,
+    })
+}
+
 fn write(channel: u8, address: u64, byte: u64) -> Made
-    ensures { λ r. ⌜ r ≡ addressIn address (byteIn byte (Made.Event (Event.Write channel address byte))) ⌝ }
+    ensures { λ r. ⌜ r ≡ addressIn address (byteIn byte (eventAt channel (Touch.Write address byte))) ⌝ }
 {
     if 15 < address {
         return Made::Refused(Refusal::Address);
@@ -30,27 +45,27 @@ fn write(channel: u8, address: u64, byte: u64) -> Made
     if 255 < byte {
         return Made::Refused(Refusal::Byte);
     }
-    Made::Event(Event::Write {
-        channel: channel,
+    let touch = Touch::Write {
         address: address as u8,
         byte: byte as u8,
-    })
+    };
+    at(channel, touch)
 }
 
 fn read(channel: u8, address: u64) -> Made
-    ensures { λ r. ⌜ r ≡ addressIn address (Made.Event (Event.Read channel address)) ⌝ }
+    ensures { λ r. ⌜ r ≡ addressIn address (eventAt channel (Touch.Read address)) ⌝ }
 {
     if 15 < address {
         return Made::Refused(Refusal::Address);
     }
-    Made::Event(Event::Read {
-        channel: channel,
+    let touch = Touch::Read {
         address: address as u8,
-    })
+    };
+    at(channel, touch)
 }
 
 fn arrival(channel: u8, byte: u64, mark: u64) -> Made
-    ensures { λ r. ⌜ r ≡ byteIn byte (markIn mark (Made.Event (Event.Arrival channel byte mark))) ⌝ }
+    ensures { λ r. ⌜ r ≡ byteIn byte (markIn mark (eventAt channel (Touch.Arrival byte mark))) ⌝ }
 {
     if 255 < byte {
         return Made::Refused(Refusal::Byte);
@@ -58,23 +73,20 @@ fn arrival(channel: u8, byte: u64, mark: u64) -> Made
     if 7 < mark {
         return Made::Refused(Refusal::Mark);
     }
-    Made::Event(Event::Arrival {
-        channel: channel,
+    let touch = Touch::Arrival {
         byte: byte as u8,
         mark: mark as u8,
-    })
+    };
+    at(channel, touch)
 }
 
 fn pins(channel: u8, value: u64) -> Made
-    ensures { λ r. ⌜ r ≡ pinsIn value (Made.Event (Event.Pins channel value)) ⌝ }
+    ensures { λ r. ⌜ r ≡ pinsIn value (eventAt channel (Touch.Pins value)) ⌝ }
 {
     if 15 < value {
         return Made::Refused(Refusal::Pins);
     }
-    Made::Event(Event::Pins {
-        channel: channel,
-        value: value as u8,
-    })
+    at(channel, Touch::Pins { value: value as u8 })
 }
 
 // The event of a kind that names a channel, by its further operands.
@@ -85,10 +97,10 @@ fn on_channel(kind: u64, channel: u8, y: u64, z: u64) -> Made
         0 => write(channel, y, z),
         1 => read(channel, y),
         2 => arrival(channel, y, z),
-        3 => Made::Event(Event::Slot { channel: channel }),
+        3 => at(channel, Touch::Slot),
         4 => pins(channel, y),
-        5 => Made::Event(Event::Quiet { channel: channel }),
-        _ => Made::Event(Event::RtsLook { channel: channel }),
+        5 => at(channel, Touch::Quiet),
+        _ => at(channel, Touch::RtsLook),
     }
 }
 
@@ -117,23 +129,20 @@ impl Event {
         ensures { λ r. ⌜ r ≡ judgedOf self ⌝ }
     {
         match self {
-            Event::Write {
-                channel,
-                address,
-                byte,
-            } => event_of(0, channel as u64, address as u64, byte as u64),
-            Event::Read { channel, address } => event_of(1, channel as u64, address as u64, 0),
-            Event::Arrival {
-                channel,
-                byte,
-                mark,
-            } => event_of(2, channel as u64, byte as u64, mark as u64),
-            Event::Slot { channel } => event_of(3, channel as u64, 0, 0),
-            Event::Pins { channel, value } => event_of(4, channel as u64, value as u64, 0),
-            Event::Quiet { channel } => event_of(5, channel as u64, 0, 0),
+            Event::At { channel, touch } => {
+                let x = channel as u64;
+                match touch {
+                    Touch::Write { address, byte } => event_of(0, x, address as u64, byte as u64),
+                    Touch::Read { address } => event_of(1, x, address as u64, 0),
+                    Touch::Arrival { byte, mark } => event_of(2, x, byte as u64, mark as u64),
+                    Touch::Slot => event_of(3, x, 0, 0),
+                    Touch::Pins { value } => event_of(4, x, value as u64, 0),
+                    Touch::Quiet => event_of(5, x, 0, 0),
+                    Touch::RtsLook => event_of(8, x, 0, 0),
+                }
+            }
             Event::Reset => event_of(6, 0, 0, 0),
             Event::IrqLook => event_of(7, 0, 0, 0),
-            Event::RtsLook { channel } => event_of(8, channel as u64, 0, 0),
         }
     }
 }

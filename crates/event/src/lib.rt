@@ -7,6 +7,7 @@ mod writing;
 
 pub use events::Event;
 pub use events::Made;
+pub use events::Touch;
 pub use events::event_of;
 pub use reading::Reading;
 pub use reading::read_at;

@@ -1,9 +1,9 @@
 // An event's bytes, as an event file has them.
 use crate::events::Event;
 use crate::events::Made;
+use crate::events::Touch;
 use crate::events::event_of;
 ghost use mathlib.Core.Path.{_≡_};
-ghost use Prim.Native.Nat.{_+_, _<_};
 ghost use Rattle.event.specs.Events.{InRange, eventOf};
 ghost use Rattle.event.specs.Writing.{wholeOf, writtenOf};
 
@@ -33,33 +33,27 @@ fn event_bytes(event: Event) -> Written
     ensures { λ r. ⌜ r ≡ wholeOf event ⌝ }
 {
     match event {
-        Event::Write {
-            channel,
-            address,
-            byte,
-        } => {
-            if byte < TWO_GROUPS {
-                return whole([0, channel, address, byte, 0], 4);
+        Event::At { channel, touch } => match touch {
+            Touch::Write { address, byte } => {
+                if byte < TWO_GROUPS {
+                    return whole([0, channel, address, byte, 0], 4);
+                }
+                whole([0, channel, address, byte, 1], 5)
             }
-            whole([0, channel, address, byte, 1], 5)
-        }
-        Event::Read { channel, address } => whole([1, channel, address, 0, 0], 3),
-        Event::Arrival {
-            channel,
-            byte,
-            mark,
-        } => {
-            if byte < TWO_GROUPS {
-                return whole([2, channel, byte, mark, 0], 4);
+            Touch::Read { address } => whole([1, channel, address, 0, 0], 3),
+            Touch::Arrival { byte, mark } => {
+                if byte < TWO_GROUPS {
+                    return whole([2, channel, byte, mark, 0], 4);
+                }
+                whole([2, channel, byte, 1, mark], 5)
             }
-            whole([2, channel, byte, 1, mark], 5)
-        }
-        Event::Slot { channel } => whole([3, channel, 0, 0, 0], 2),
-        Event::Pins { channel, value } => whole([4, channel, value, 0, 0], 3),
-        Event::Quiet { channel } => whole([5, channel, 0, 0, 0], 2),
+            Touch::Slot => whole([3, channel, 0, 0, 0], 2),
+            Touch::Pins { value } => whole([4, channel, value, 0, 0], 3),
+            Touch::Quiet => whole([5, channel, 0, 0, 0], 2),
+            Touch::RtsLook => whole([8, channel, 0, 0, 0], 2),
+        },
         Event::Reset => whole([6, 0, 0, 0, 0], 1),
         Event::IrqLook => whole([7, 0, 0, 0, 0], 1),
-        Event::RtsLook { channel } => whole([8, channel, 0, 0, 0], 2),
     }
 }
 

@@ -1,195 +1,122 @@
--- Nothing done on the other channel alters a channel, save a device reset.
+-- Laws: nothing done on the other channel alters a channel, save a device reset.
 use Prim.Native.Nat.{ℕ}
 use native.Mathlib.Omega.{arith}
 use mathlib.Core.Path.{_≡_, refl, sym, ap, _∙_}
-use mathlib.Core.Bool.{Bool, true, false, not, _&&_}
+use mathlib.Core.Bool.{Bool, true, false, not}
 use mathlib.Core.List.{List, [], _∷_}
 use Rattle.bits.specs.Choice.{pick}
-use Rattle.event.specs.declared.events.Event.{Event}
 use Rattle.event.specs.declared.events.Event.the-variants as event
 use Rattle.event.specs.declared.events.Made.{Made}
 use Rattle.event.specs.declared.events.Made.the-variants as made
-use Rattle.registers.specs.declared.settings.Settings.{Settings}
-use Rattle.registers.specs.declared.touch.Touch.{Touch}
+use Rattle.event.specs.declared.events.Touch.{Touch}
 use Rattle.channel.specs.declared.channel.Channel.{Channel}
-use Rattle.channel.specs.Channel.{touchedOf, resetOf}
+use Rattle.channel.specs.Touches.{resetsBy}
+use Rattle.channel.specs.Step.{stepAt}
 use Rattle.device.specs.declared.side.Side.{Side}
-use Rattle.device.specs.declared.effect.Effect.{Effect}
-use Rattle.device.specs.declared.effect.Effect.the-variants as effect
 use Rattle.device.specs.declared.device.Device.{Device}
 use Rattle.device.specs.declared.device.Answer.{Answer}
 use Rattle.device.specs.declared.device.Answer.the-variants as answer
-use Rattle.device.specs.Effects.{sideOf, effectOf}
+use Rattle.device.specs.Reset.{resetDevice, newDevice}
 use Rattle.device.specs.Device as device
-use Rattle.device.specs.Device.{channelAt, settingsAt, touchedAt, rtsAt, lookReply, newDevice, effected, stepOf, answeredOf}
-use Rattle.device.specs.Laws.{otherSide, well-formed-new, well-formed-answered}
-use Rattle.history.specs.Judge.{Ledger, settingsOf, freshLedger, lineAfter, ledgerAfter, isSide, judgedBy, judgedFrom}
-use Rattle.history.specs.Demand3.{ranFrom, ran, AllIn, line, namesChannel, ofOwn, ofOther, withoutOther, effectBy, NoResetThereFrom, NoResetThere, answersFrom, answers, Alone}
-use Rattle.history.specs.Agreement.{Agrees, own-side, same-settings, agrees-answered, agrees-new, other-side, seen-own, seen-from-other, reset-seen}
+use Rattle.device.specs.Device.{channelAt, sideNumbered, touchedAt, namedStep, stepOf, answeredOf}
+use Rattle.device.specs.Laws.{well-formed-new, well-formed-answered}
+use Rattle.history.specs.Judge.{Ledger, freshLedger, tallyAfter, Effect, Own, Other, Reset, Nothing, isSide, namedEffect, effectOn, ledgerAfter, judgedBy, judgedFrom}
+use Rattle.history.specs.Demand3.{ranFrom, ran, AllIn, tally, ofOwn, ofOther, withoutOther, NoResetThereFrom, NoResetThere, answersFrom, answers, Alone}
+use Rattle.history.specs.Seen.{ownAfter, own-side, seen}
+use Rattle.history.specs.Agreement.{Agrees, agrees-answered, agrees-new}
 
--- ---- tests
-not-own : (names own : Bool) → names && not own ≡ true → own ≡ false
-not-own true true h = sym h
-not-own true false h = refl
-not-own false own h = cc
+-- ---- what an event of the other channel does, if it is no reset
+abbrev PassesBy : Effect → Type 0
+PassesBy (Own t) = ⊥
+PassesBy (Other t) = Unit {0}
+PassesBy Reset = ⊥
+PassesBy Nothing = ⊥
 
-and-left : (a b : Bool) → a && b ≡ true → a ≡ true
-and-left true b h = refl
-and-left false b h = h
+named-passes : (own : Bool) (l : Ledger) (t : Touch) → not own ≡ true → (namedEffect own l t ≡ Reset → ⊥) → PassesBy (namedEffect own l t)
+named-passes true l t there kept = absurd (let z : _≡_ {A = ℕ} 0 1 = cc in omega arith)
+named-passes false l t there kept = go (resetsBy (l .other) t) kept
+  where
+    go : (resets : Bool) → (pick resets Reset (Other t) ≡ Reset → ⊥) → PassesBy (pick resets Reset (Other t))
+    go true kept = absurd (kept refl)
+    go false kept = tt
 
-and-right : (a b : Bool) → a && b ≡ true → b ≡ true
-and-right true b h = h
-and-right false b h = cc
+passes : (w : Side) (l : Ledger) (m : Made) → ofOther w m ≡ true → (effectOn w l m ≡ Reset → ⊥) → PassesBy (effectOn w l m)
+passes w l (made.Event (event.At channel t)) there kept = named-passes (isSide w (sideNumbered channel)) l t there kept
+passes w l (made.Event event.Reset) there kept = absurd (kept refl)
+passes w l (made.Event event.IrqLook) there kept = absurd (let z : _≡_ {A = ℕ} 0 1 = cc in omega arith)
+passes w l (made.Refused r) there kept = absurd (let z : _≡_ {A = ℕ} 0 1 = cc in omega arith)
 
-unnamed : (names : Bool) → names && not false ≡ false → names ≡ false
-unnamed true h = h
-unnamed false h = refl
-
--- an event that names no channel does the same whatever the stored registers are
-same-unnamed : (e : Event) (s t : Settings) → namesChannel e ≡ false → effectOf s e ≡ effectOf t e
-unfolding effectOf
-same-unnamed (event.Write channel address byte) s t h = cc
-same-unnamed (event.Read channel address) s t h = cc
-same-unnamed (event.Arrival channel byte mark) s t h = cc
-same-unnamed (event.Slot channel) s t h = cc
-same-unnamed (event.Pins channel value) s t h = cc
-same-unnamed (event.Quiet channel) s t h = cc
-same-unnamed event.Reset s t h = refl
-same-unnamed event.IrqLook s t h = refl
-same-unnamed (event.RtsLook channel) s t h = cc
-
--- ---- the judge
+-- ---- the judge: two ledgers that a channel cannot tell apart
 record Alike (l k : Ledger) : Type 0 where
   own : l .own ≡ k .own
-  line : l .line ≡ k .line
+  tally : l .tally ≡ k .tally
 
--- an event of the other channel that is no reset
-alike-there : (l k : Ledger) (f : Effect) → (f ≡ effect.Reset → ⊥) → Alike l k → Alike (ledgerAfter l false f) k
-unfolding ledgerAfter lineAfter
-alike-there l k (effect.Touch t) kept h = record { own = h .own; line = h .line }
-alike-there l k effect.Reset kept h = absurd (kept refl)
-alike-there l k effect.Nothing kept h = record { own = h .own; line = h .line }
+alike-there : (l k : Ledger) (f : Effect) → PassesBy f → Alike l k → Alike (ledgerAfter l f) k
+unfolding ledgerAfter tallyAfter
+alike-there l k (Own t) by h = absurd by
+alike-there l k (Other t) by h = record { own = h .own; tally = h .tally }
+alike-there l k Reset by h = absurd by
+alike-there l k Nothing by h = absurd by
 
--- any other event
-alike-after : (l k : Ledger) (own : Bool) (f : Effect) → Alike l k → Alike (ledgerAfter l own f) (ledgerAfter k own f)
+alike-after : (l k : Ledger) (f : Effect) → Alike l k → Alike (ledgerAfter l f) (ledgerAfter k f)
 unfolding ledgerAfter
-alike-after l k own f h = record { own = rw (h .own); line = rw (h .own, h .line) }
+alike-after l k f h = record { own = rw (h .own); tally = rw (h .own, h .tally) }
 
--- it does the same by either ledger
-same-effect : (w : Side) (l k : Ledger) (e : Event) → l .own ≡ k .own → namesChannel e && not (isSide w (sideOf e)) ≡ false
-    → effectOf (settingsOf l (isSide w (sideOf e))) e ≡ effectOf (settingsOf k (isSide w (sideOf e))) e
-same-effect w l k e same here = go (isSide w (sideOf e)) here
-  where
-    go : (own : Bool) → namesChannel e && not own ≡ false → effectOf (settingsOf l own) e ≡ effectOf (settingsOf k own) e
-    go true _ = rw same
-    go false h = same-unnamed e (l .other) (k .other) (unnamed (namesChannel e) h)
+-- any other event does the same by either
+named-alike : (own : Bool) (l k : Ledger) (t : Touch) → not own ≡ false → l .own ≡ k .own → namedEffect own l t ≡ namedEffect own k t
+named-alike true l k t here same = rw same
+named-alike false l k t here same = cc
+
+same-effect : (w : Side) (l k : Ledger) (m : Made) → ofOther w m ≡ false → l .own ≡ k .own → effectOn w l m ≡ effectOn w k m
+same-effect w l k (made.Event (event.At channel t)) here same = named-alike (isSide w (sideNumbered channel)) l k t here same
+same-effect w l k (made.Event event.Reset) here same = refl
+same-effect w l k (made.Event event.IrqLook) here same = refl
+same-effect w l k (made.Refused r) here same = refl
 
 alike-here : (w : Side) (l k : Ledger) (m : Made) → ofOther w m ≡ false → Alike l k → Alike (judgedBy w l m) (judgedBy w k m)
 unfolding judgedBy
-alike-here w l k (made.Event e) here h =
-    rw (same-effect w l k e (h .own) here) (alike-after l k (isSide w (sideOf e)) (effectOf (settingsOf k (isSide w (sideOf e))) e) h)
-alike-here w l k (made.Refused r) here h = h
+alike-here w l k m here h = rw (same-effect w l k m here (h .own)) (alike-after l k (effectOn w k m) h)
 
-alike-other : (w : Side) (l k : Ledger) (m : Made) → ofOther w m ≡ true → (effectBy w l m ≡ effect.Reset → ⊥) → Alike l k → Alike (judgedBy w l m) k
+alike-other : (w : Side) (l k : Ledger) (m : Made) → ofOther w m ≡ true → (effectOn w l m ≡ Reset → ⊥) → Alike l k → Alike (judgedBy w l m) k
 unfolding judgedBy
-alike-other w l k (made.Event e) there kept h = go (isSide w (sideOf e)) (not-own (namesChannel e) (isSide w (sideOf e)) there) kept
+alike-other w l k m there kept h = alike-there l k (effectOn w l m) (passes w l m there kept) h
+
+-- ---- the channel's record
+left-alone : (ch : Channel) (f : Effect) → PassesBy f → ownAfter ch f ≡ ch
+left-alone ch (Own t) by = absurd by
+left-alone ch (Other t) by = refl
+left-alone ch Reset by = absurd by
+left-alone ch Nothing by = absurd by
+
+-- ---- the channel's answers
+abbrev replyBy : Channel → Touch → ℕ
+replyBy ch t = pick (resetsBy (ch .settings) t) 0 (stepAt ch t .reply)
+
+named-reply : (d : Device) (w : Side) (t : Touch) → namedStep d w t .reply ≡ replyBy (channelAt d w) t
+unfolding namedStep touchedAt
+named-reply d w t = go (resetsBy (channelAt d w .settings) t)
   where
-    go : (own : Bool) → own ≡ false → (effectOf (settingsOf l own) e ≡ effect.Reset → ⊥) → Alike (ledgerAfter l own (effectOf (settingsOf l own) e)) k
-    go true o kept = absurd (let z : _≡_ {A = ℕ} 0 1 = cc in omega arith)
-    go false o kept = alike-there l k (effectOf (l .other) e) kept h
-alike-other w l k (made.Refused r) there kept h = h
+    go : (resets : Bool) → pick resets (record { device = resetDevice d; reply = 0 }) (touchedAt d w t) .reply ≡ pick resets 0 (stepAt (channelAt d w) t .reply)
+    go true = refl
+    go false = refl
 
--- ---- the device
--- an event of the other channel that is no reset leaves this channel's record
-left-alone : (w : Side) (d : Device) (e : Event) (f : Effect) → sideOf e ≡ otherSide w → (f ≡ effect.Reset → ⊥) → channelAt (effected d e f .device) w ≡ channelAt d w
-unfolding touchedAt
-left-alone w d e (effect.Touch t) at kept = rw at (seen-from-other d w _)
-left-alone w d e effect.Reset at kept = absurd (kept refl)
-left-alone w d e effect.Nothing at kept = refl
-
-other-step : (w : Side) (d : Device) (l : Ledger) (m : Made) → device.WellFormed d → Agrees w d l → ofOther w m ≡ true
-    → (effectBy w l m ≡ effect.Reset → ⊥) → channelAt (answeredOf d m .device) w ≡ channelAt d w
+own-answer : (w : Side) (d k : Device) → channelAt d w ≡ channelAt k w → (m : Made) → ofOwn w m ≡ true → answeredOf d m .answer ≡ answeredOf k m .answer
 unfolding answeredOf stepOf
-other-step w d l (made.Event e) ok h there kept =
-    rw (same-settings w d l ok h (sideOf e)) (left-alone w d e (effectBy w l (made.Event e)) (other-side w (sideOf e) (not-own (namesChannel e) (isSide w (sideOf e)) there)) kept)
-other-step w d l (made.Refused r) ok h there kept = refl
-
-module _ (w : Side) (d k : Device) (same : channelAt d w ≡ channelAt k w) where
-  -- what an event of this channel does, and what a reset or a look does, it does to both
-  same-seen : (e : Event) (f : Effect) → sideOf e ≡ w → channelAt (effected d e f .device) w ≡ channelAt (effected k e f .device) w
-  unfolding touchedAt
-  same-seen e (effect.Touch t) at =
-      rw at (seen-own d w _ ∙ ap (λ (ch : Channel). touchedOf ch t .channel) same ∙ sym (seen-own k w _))
-  same-seen e effect.Reset at = reset-seen d w ∙ ap (λ (ch : Channel). resetOf ch 0x1D) same ∙ sym (reset-seen k w)
-  same-seen e effect.Nothing at = same
-
-  same-look : (e : Event) → sideOf e ≡ w → namesChannel e ≡ true → lookReply d e ≡ lookReply k e
-  unfolding lookReply rtsAt
-  same-look (event.Write channel address byte) at h = refl
-  same-look (event.Read channel address) at h = refl
-  same-look (event.Arrival channel byte mark) at h = refl
-  same-look (event.Slot channel) at h = refl
-  same-look (event.Pins channel value) at h = refl
-  same-look (event.Quiet channel) at h = refl
-  same-look event.Reset at h = refl
-  same-look event.IrqLook at h = cc
-  same-look (event.RtsLook channel) at h = rw (at, same)
-
-  same-reply : (e : Event) (f : Effect) → sideOf e ≡ w → namesChannel e ≡ true → effected d e f .reply ≡ effected k e f .reply
-  unfolding touchedAt
-  same-reply e (effect.Touch t) at named = rw at (ap (λ (ch : Channel). touchedOf ch t .reply) same)
-  same-reply e effect.Reset at named = refl
-  same-reply e effect.Nothing at named = same-look e at named
-
-  same-settings-at : (at : Side) → at ≡ w → settingsAt d at ≡ settingsAt k at
-  unfolding settingsAt
-  same-settings-at at e = rw e (ap (λ (ch : Channel). ch .settings) same)
-
-  same-effect-at : (e : Event) → sideOf e ≡ w → effectOf (settingsAt d (sideOf e)) e ≡ effectOf (settingsAt k (sideOf e)) e
-  same-effect-at e at = ap (λ (s : Settings). effectOf s e) (same-settings-at (sideOf e) at)
-
-  own-step : (e : Event) → sideOf e ≡ w → channelAt (stepOf d e .device) w ≡ channelAt (stepOf k e .device) w
-  unfolding stepOf
-  own-step e at = rw (same-effect-at e at) (same-seen e (effectOf (settingsAt k (sideOf e)) e) at)
-
-  own-reply : (e : Event) → sideOf e ≡ w → namesChannel e ≡ true → stepOf d e .reply ≡ stepOf k e .reply
-  unfolding stepOf
-  own-reply e at named = rw (same-effect-at e at) (same-reply e (effectOf (settingsAt k (sideOf e)) e) at named)
-
-  unnamed-step : (e : Event) → namesChannel e ≡ false → channelAt (stepOf d e .device) w ≡ channelAt (stepOf k e .device) w
-  unfolding stepOf effectOf
-  unnamed-step (event.Write channel address byte) h = cc
-  unnamed-step (event.Read channel address) h = cc
-  unnamed-step (event.Arrival channel byte mark) h = cc
-  unnamed-step (event.Slot channel) h = cc
-  unnamed-step (event.Pins channel value) h = cc
-  unnamed-step (event.Quiet channel) h = cc
-  unnamed-step event.Reset h = reset-seen d w ∙ ap (λ (ch : Channel). resetOf ch 0x1D) same ∙ sym (reset-seen k w)
-  unnamed-step event.IrqLook h = same
-  unnamed-step (event.RtsLook channel) h = cc
-
-  here-step : (m : Made) → ofOther w m ≡ false → channelAt (answeredOf d m .device) w ≡ channelAt (answeredOf k m .device) w
-  unfolding answeredOf
-  here-step (made.Event e) here = go (isSide w (sideOf e)) refl here
-    where
-      go : (own : Bool) → isSide w (sideOf e) ≡ own → namesChannel e && not own ≡ false → channelAt (stepOf d e .device) w ≡ channelAt (stepOf k e .device) w
-      go true own h = own-step e (own-side w (sideOf e) own)
-      go false own h = unnamed-step e (unnamed (namesChannel e) h)
-  here-step (made.Refused r) here = same
-
-  own-answer : (m : Made) → ofOwn w m ≡ true → answeredOf d m .answer ≡ answeredOf k m .answer
-  unfolding answeredOf
-  own-answer (made.Event e) own =
-      ap answer.Reply (own-reply e (own-side w (sideOf e) (and-right (namesChannel e) (isSide w (sideOf e)) own)) (and-left (namesChannel e) (isSide w (sideOf e)) own))
-  own-answer (made.Refused r) own = refl
+own-answer w d k same (made.Event (event.At channel t)) own =
+    rw (own-side w (sideNumbered channel) own)
+    (ap answer.Reply (named-reply d w t ∙ ap (λ (ch : Channel). replyBy ch t) same ∙ sym (named-reply k w t)))
+own-answer w d k same (made.Event event.Reset) own = refl
+own-answer w d k same (made.Event event.IrqLook) own = cc
+own-answer w d k same (made.Refused r) own = refl
 
 not-both : (w : Side) (m : Made) → ofOther w m ≡ true → ofOwn w m ≡ false
-not-both w (made.Event e) h = go (namesChannel e) (isSide w (sideOf e)) h
+not-both w (made.Event (event.At channel t)) h = go (isSide w (sideNumbered channel)) h
   where
-    go : (names own : Bool) → names && not own ≡ true → names && own ≡ false
-    go true true h = sym h
-    go true false h = refl
-    go false own h = refl
+    go : (own : Bool) → not own ≡ true → own ≡ false
+    go true h = sym h
+    go false h = refl
+not-both w (made.Event event.Reset) h = refl
+not-both w (made.Event event.IrqLook) h = refl
 not-both w (made.Refused r) h = refl
 
 answers-more : (own : Bool) {a b : Answer} {xs ys : List Answer} → (own ≡ true → a ≡ b) → xs ≡ ys → pick own (a ∷ xs) xs ≡ pick own (b ∷ ys) ys
@@ -197,53 +124,86 @@ answers-more true same rest = λ i. same refl i ∷ rest i
 answers-more false same rest = rest
 
 -- ---- over every history, against the same without the events of the other channel
-module _ (w : Side) where
-  alike-run : (history : List Made) (l k : Ledger) → NoResetThereFrom w l history → Alike l k
-      → Alike (judgedFrom w l history) (judgedFrom w k (withoutOther w history))
-  alike-run [] l k kept h = h
-  alike-run (m ∷ history) l k kept h = go (alike-run history) (ofOther w m) refl
-    where
-      go : ((l k : Ledger) → NoResetThereFrom w l history → Alike l k → Alike (judgedFrom w l history) (judgedFrom w k (withoutOther w history)))
-          → (there : Bool) → ofOther w m ≡ there
-          → Alike (judgedFrom w (judgedBy w l m) history) (judgedFrom w k (pick there (withoutOther w history) (m ∷ withoutOther w history)))
-      go again true there = again (judgedBy w l m) k (kept .1) (alike-other w l k m there (kept .0 there) h)
-      go again false there = again (judgedBy w l m) (judgedBy w k m) (kept .1) (alike-here w l k m there h)
+-- two devices whose channel w is the same, each with its ledger
+record Beside (w : Side) (d k : Device) (l n : Ledger) : Type 0 where
+  d-in : device.WellFormed d
+  k-in : device.WellFormed k
+  d-agrees : Agrees w d l
+  k-agrees : Agrees w k n
+  alike : Alike l n
+  same : channelAt d w ≡ channelAt k w
 
-  -- the record, and the answers
-  SameRun : List Made → Device → Device → Type 0
-  SameRun history d k = (channelAt (ranFrom d history) w ≡ channelAt (ranFrom k (withoutOther w history)) w)
-      × (answersFrom w d history ≡ answersFrom w k (withoutOther w history))
+beside-there : (w : Side) (d k : Device) (l n : Ledger) (m : Made) → device.WellFormed (answeredOf d m .device) → ofOther w m ≡ true
+    → (effectOn w l m ≡ Reset → ⊥) → Beside w d k l n → Beside w (answeredOf d m .device) k (judgedBy w l m) n
+beside-there w d k l n m ok there kept h =
+    record {
+      d-in = ok;
+      k-in = h .k-in;
+      d-agrees = agrees-answered w d l m (h .d-in) (h .d-agrees);
+      k-agrees = h .k-agrees;
+      alike = alike-other w l n m there kept (h .alike);
+      same =
+          seen w d l (h .d-agrees .same) m .own
+          ∙ left-alone (channelAt d w) (effectOn w l m) (passes w l m there kept)
+          ∙ h .same;
+    }
 
-  same-run : (history : List Made) (d k : Device) (l : Ledger) → AllIn history → NoResetThereFrom w l history → device.WellFormed d → Agrees w d l
-      → channelAt d w ≡ channelAt k w → SameRun history d k
-  unfolding SameRun
-  same-run [] d k l range kept ok h same = (same, refl)
-  same-run (m ∷ history) d k l range kept ok h same = go (same-run history) (ofOther w m) refl
-    where
-      go : ((d k : Device) (l : Ledger) → AllIn history → NoResetThereFrom w l history → device.WellFormed d → Agrees w d l → channelAt d w ≡ channelAt k w → SameRun history d k)
-          → (there : Bool) → ofOther w m ≡ there
-          → (channelAt (ranFrom (answeredOf d m .device) history) w ≡ channelAt (ranFrom k (pick there (withoutOther w history) (m ∷ withoutOther w history))) w)
-          × (answersFrom w d (m ∷ history) ≡ answersFrom w k (pick there (withoutOther w history) (m ∷ withoutOther w history)))
-      go again true there =
-          let rest : SameRun history (answeredOf d m .device) k =
-          again (answeredOf d m .device) k (judgedBy w l m) (range .1) (kept .1) (well-formed-answered d m (range .0) ok) (agrees-answered w d l m ok h)
-          (other-step w d l m ok h there (kept .0 there) ∙ same) in
-          (rest .0, rw (not-both w m there) (rest .1))
-      go again false there =
-          let rest : SameRun history (answeredOf d m .device) (answeredOf k m .device) =
-          again (answeredOf d m .device) (answeredOf k m .device) (judgedBy w l m) (range .1) (kept .1) (well-formed-answered d m (range .0) ok)
-          (agrees-answered w d l m ok h) (here-step w d k same m there) in
-          (rest .0, answers-more (ofOwn w m) (λ own. own-answer w d k same m own) (rest .1))
+beside-here : (w : Side) (d k : Device) (l n : Ledger) (m : Made) → device.WellFormed (answeredOf d m .device)
+    → device.WellFormed (answeredOf k m .device) → ofOther w m ≡ false → Beside w d k l n
+    → Beside w (answeredOf d m .device) (answeredOf k m .device) (judgedBy w l m) (judgedBy w n m)
+beside-here w d k l n m ok ok′ here h =
+    record {
+      d-in = ok;
+      k-in = ok′;
+      d-agrees = agrees-answered w d l m (h .d-in) (h .d-agrees);
+      k-agrees = agrees-answered w k n m (h .k-in) (h .k-agrees);
+      alike = alike-here w l n m here (h .alike);
+      same =
+          seen w d l (h .d-agrees .same) m .own
+          ∙ ap (ownAfter (channelAt d w)) (same-effect w l n m here (h .alike .own))
+          ∙ ap (λ (ch : Channel). ownAfter ch (effectOn w n m)) (h .same)
+          ∙ sym (seen w k n (h .k-agrees .same) m .own);
+    }
+
+-- the judgement, the answers and the record after a history and after another
+abbrev SameRun : Side → Device → Device → Ledger → Ledger → List Made → List Made → Type 0
+SameRun w d k l n history another =
+    (judgedFrom w l history .tally ≡ judgedFrom w n another .tally)
+    × (answersFrom w d history ≡ answersFrom w k another)
+    × (channelAt (ranFrom d history) w ≡ channelAt (ranFrom k another) w)
+
+same-run : (w : Side) (history : List Made) (d k : Device) (l n : Ledger) → AllIn history → NoResetThereFrom w l history → Beside w d k l n
+    → SameRun w d k l n history (withoutOther w history)
+same-run w [] d k l n range kept h = (h .alike .tally, refl, h .same)
+same-run w (m ∷ history) d k l n range kept h = go (same-run w history) (ofOther w m) refl
+  where
+    go : ((d k : Device) (l n : Ledger) → AllIn history → NoResetThereFrom w l history → Beside w d k l n → SameRun w d k l n history (withoutOther w history))
+        → (there : Bool) → ofOther w m ≡ there
+        → SameRun w d k l n (m ∷ history) (pick there (withoutOther w history) (m ∷ withoutOther w history))
+    go again true there =
+        let rest : SameRun w (answeredOf d m .device) k (judgedBy w l m) n history (withoutOther w history) =
+        again (answeredOf d m .device) k (judgedBy w l m) n (range .1) (kept .1)
+        (beside-there w d k l n m (well-formed-answered d m (range .0) (h .d-in)) there (kept .0 there) h) in
+        (rest .0, rw (not-both w m there) (rest .1), rest .2)
+    go again false there =
+        let rest : SameRun w (answeredOf d m .device) (answeredOf k m .device) (judgedBy w l m) (judgedBy w n m) history (withoutOther w history) =
+        again (answeredOf d m .device) (answeredOf k m .device) (judgedBy w l m) (judgedBy w n m) (range .1) (kept .1)
+        (beside-here w d k l n m (well-formed-answered d m (range .0) (h .d-in)) (well-formed-answered k m (range .0) (h .k-in)) there h) in
+        (rest .0, answers-more (ofOwn w m) (λ own. own-answer w d k (h .same) m own) (rest .1), rest .2)
 
 pub without-other : (w : Side) (history : List Made) → AllIn history → NoResetThere w history → Alone w history (withoutOther w history)
-unfolding SameRun
 without-other w history range kept =
-    let run : SameRun w history newDevice newDevice = same-run w history newDevice newDevice freshLedger range kept well-formed-new (agrees-new w) refl in
-    record {
-      same-line = alike-run w history freshLedger freshLedger kept (record { own = refl; line = refl }) .line;
-      same-answers = run .1;
-      same-record = run .0;
-    }
+    let run : SameRun w newDevice newDevice freshLedger freshLedger history (withoutOther w history) =
+    same-run w history newDevice newDevice freshLedger freshLedger range kept
+    (record {
+      d-in = well-formed-new;
+      k-in = well-formed-new;
+      d-agrees = agrees-new w;
+      k-agrees = agrees-new w;
+      alike = record { own = refl; tally = refl };
+      same = refl;
+    }) in
+    record { same-tally = run .0; same-answers = run .1; same-record = run .2 }
 
 -- two histories that are one without the events of the other channel
 pub alone : (w : Side) (history another : List Made) → AllIn history → AllIn another → NoResetThere w history → NoResetThere w another
@@ -252,7 +212,7 @@ alone w history another range range′ kept kept′ same =
     let a : Alone w history (withoutOther w history) = without-other w history range kept in
     let b : Alone w another (withoutOther w another) = without-other w another range′ kept′ in
     record {
-      same-line = a .same-line ∙ ap (line w) same ∙ sym (b .same-line);
+      same-tally = a .same-tally ∙ ap (tally w) same ∙ sym (b .same-tally);
       same-answers = a .same-answers ∙ ap (answers w) same ∙ sym (b .same-answers);
       same-record = a .same-record ∙ ap (λ (h : List Made). channelAt (ran h) w) same ∙ sym (b .same-record);
     }

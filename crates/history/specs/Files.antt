@@ -1,5 +1,5 @@
--- The run over an event file as a history: what is read of the input, one event after the other, is a history of events in
--- range and refused ones, and the run's answers are the device's along it. So demand 3 holds of runs over files too.
+-- Laws: the run over an event file as a history: what is read of the input, one event after the other, is a history of events
+-- in range and refused ones, and the run's answers are the device's along it. So demand 3 holds of runs over files too.
 use Prim.Native.Nat.{ℕ, zero, suc, _+_}
 use mathlib.Core.Path.{_≡_, refl, ap}
 use mathlib.Core.List.{List, [], _∷_, _++_, map}
@@ -14,8 +14,9 @@ use Rattle.device.specs.declared.side.Side.{Side}
 use Rattle.device.specs.declared.device.Device.{Device}
 use Rattle.device.specs.declared.device.Answer.{Answer}
 use Rattle.device.specs.declared.device.Answer.the-variants as answer
-use Rattle.device.specs.Device.{newDevice, answeredOf}
-use Rattle.run.specs.Run.{Indexed, answersBy, answersFrom, answersOf}
+use Rattle.device.specs.Reset.{newDevice}
+use Rattle.device.specs.Device.{answeredOf}
+use Rattle.run.specs.Run.{Indexed, runBy, runFrom, runOf}
 use Rattle.history.specs.Demand3.{AllIn, Demand3}
 use Rattle.history.specs.Proved.{demand-3}
 
@@ -54,22 +55,22 @@ answersAlong d (m ∷ history) = answeredOf d m .answer ∷ answersAlong (answer
 
 -- ---- the run's answers are those along the history, and the refusal that ends it
 run-from : (k : ℕ) (s : List ℕ) (at index : ℕ) (d : Device)
-    → map (λ (a : Indexed). a .answer) (answersFrom k s at index d) ≡ answersAlong d (historyFrom k s at) ++ endFrom k s at
-unfolding answersFrom historyFrom endFrom answeredOf
+    → map (λ (a : Indexed). a .answer) (runFrom k s at index d) ≡ answersAlong d (historyFrom k s at) ++ endFrom k s at
+unfolding runFrom historyFrom endFrom answeredOf
 run-from zero s at index d = refl
 run-from (suc k) s at index d = go (run-from k s) (readAt s at)
   where
-    go : ((at index : ℕ) (d : Device) → map (λ (a : Indexed). a .answer) (answersFrom k s at index d) ≡ answersAlong d (historyFrom k s at) ++ endFrom k s at)
+    go : ((at index : ℕ) (d : Device) → map (λ (a : Indexed). a .answer) (runFrom k s at index d) ≡ answersAlong d (historyFrom k s at) ++ endFrom k s at)
         → (r : Reading)
-        → map (λ (a : Indexed). a .answer) (answersBy (answersFrom k s) index d r)
+        → map (λ (a : Indexed). a .answer) (runBy (runFrom k s) index d r)
         ≡ answersAlong d (readingThen (historyFrom k s) r) ++ endThen (endFrom k s) r
     go rest (reading.Event e next) = ap (λ (l : List Answer). answeredOf d (made.Event e) .answer ∷ l) (rest next (index + 1) (answeredOf d (made.Event e) .device))
     go rest (reading.Refused r next) = ap (λ (l : List Answer). answeredOf d (made.Refused r) .answer ∷ l) (rest next (index + 1) (answeredOf d (made.Refused r) .device))
     go rest (reading.Ended r) = refl
     go rest reading.End = refl
 
-pub run-is-history : (s : List ℕ) → map (λ (a : Indexed). a .answer) (answersOf s) ≡ answersAlong newDevice (historyOf s) ++ endOf s
-unfolding answersOf
+pub run-is-history : (s : List ℕ) → map (λ (a : Indexed). a .answer) (runOf s) ≡ answersAlong newDevice (historyOf s) ++ endOf s
+unfolding runOf
 run-is-history s = run-from (length s) s 0 0 newDevice
 
 -- ---- and it is a history of events in range

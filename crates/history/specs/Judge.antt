@@ -1,5 +1,5 @@
--- The judge of a history: from the events alone, what was kept of a channel's arrivals since its receive queue was last
--- cleared, and how many reads of the receive register found a character. There is no queue, no device and no reply here:
+-- Definitions: the judge of a history. From the events alone it says what was kept of a channel's arrivals since its receive queue
+-- was last cleared, and how many reads of the receive register found a character. There is no queue, no device and no reply here:
 -- "What the fate rules call queued is there judged from the history, as kept less read since the clear, and a read finds
 -- a character exactly if that isn't 0."
 use Prim.Native.Nat.{ℕ, _+_, _-_}
@@ -9,88 +9,67 @@ use lib.ListN.{length, drop}
 use lib.Dec.{eqb, ltb}
 use Rattle.bits.specs.Choice.{pick}
 use Rattle.queue.specs.declared.Character.{Character}
-use Rattle.queue.specs.declared.Act.{Act}
-use Rattle.queue.specs.declared.Act.the-variants as act
+use Rattle.queue.specs.Change.{Change, Add, Take, Clear, Stay}
 use Rattle.event.specs.declared.events.Event.{Event}
+use Rattle.event.specs.declared.events.Event.the-variants as event
 use Rattle.event.specs.declared.events.Made.{Made}
 use Rattle.event.specs.declared.events.Made.the-variants as made
+use Rattle.event.specs.declared.events.Touch.{Touch}
 use Rattle.registers.specs.declared.settings.Settings.{Settings}
-use Rattle.registers.specs.declared.touch.Touch.{Touch}
-use Rattle.registers.specs.Writes.{resetFrom, newSettings}
 use Rattle.registers.specs.Arrivals.{roomOf}
-use Rattle.registers.specs.Touches.{settingsAfter, receiveAct}
+use Rattle.channel.specs.Touches.{settingsAfter, receiveChange, resetsBy}
 use Rattle.device.specs.declared.side.Side.{Side}
 use Rattle.device.specs.declared.side.Side.the-variants as side
-use Rattle.device.specs.declared.effect.Effect.{Effect}
-use Rattle.device.specs.declared.effect.Effect.the-variants as effect
-use Rattle.device.specs.Effects.{sideOf, effectOf}
+use Rattle.device.specs.Reset.{settingsReset, blankSettings}
+use Rattle.device.specs.Device.{sideNumbered}
 
 -- a channel's receive side since its queue was last cleared: the characters kept, in order, and how many were read
-pub record Line : Type 0 where
+pub record Tally : Type 0 where
   pub kept : List Character
   pub read : ℕ
 
 -- after a clear
-abbrev pub freshLine : Line
-freshLine = record { kept = []; read = 0 }
+abbrev pub freshTally : Tally
+freshTally = record { kept = []; read = 0 }
 
 -- kept less read
-abbrev pub queued : Line → ℕ
+abbrev pub queued : Tally → ℕ
 queued l = length (l .kept) - l .read
 
 -- the characters kept and not read, the next one first
-abbrev pub unread : Line → List Character
+abbrev pub unread : Tally → List Character
 unread l = drop (l .read) (l .kept)
 
 -- "kept .. if fewer than room are queued"
-abbrev pub keeps : Line → ℕ → Bool
+abbrev pub keeps : Tally → ℕ → Bool
 keeps l room = ltb (queued l) room
 
 -- "a read finds a character exactly if that isn't 0"
-abbrev pub finds : Line → Bool
+abbrev pub finds : Tally → Bool
 finds l = not (eqb (queued l) 0)
 
-unfoldable pub lineAfter : Line → Act → ℕ → Line
-lineAfter l (act.Add c) room = pick (keeps l room) (record { kept = l .kept ++ (c ∷ []); read = l .read }) l
-lineAfter l act.Take room = pick (finds l) (record { kept = l .kept; read = l .read + 1 }) l
-lineAfter l act.Clear room = freshLine
-lineAfter l act.Nothing room = l
+unfoldable pub tallyAfter : Tally → Change → ℕ → Tally
+tallyAfter l (Add c) room = pick (keeps l room) (record { kept = l .kept ++ (c ∷ []); read = l .read }) l
+tallyAfter l Take room = pick (finds l) (record { kept = l .kept; read = l .read + 1 }) l
+tallyAfter l Clear room = freshTally
+tallyAfter l Stay room = l
 
--- what the judge of a channel holds: its stored registers, the other channel's, and its line
+-- what the judge of a channel holds: its stored registers, the other channel's, and its tally
 pub record Ledger : Type 0 where
   pub own : Settings
   pub other : Settings
-  pub line : Line
+  pub tally : Tally
 
 -- the ledger of a new device
 abbrev pub freshLedger : Ledger
-freshLedger = record { own = newSettings; other = newSettings; line = freshLine }
+freshLedger = record { own = settingsReset blankSettings; other = settingsReset blankSettings; tally = freshTally }
 
--- the stored registers of the channel that an event names
-abbrev pub settingsOf : Ledger → Bool → Settings
-settingsOf l own = pick own (l .own) (l .other)
-
--- what an event does to a channel's stored registers, where it names that channel or the other
-abbrev pub settingsBy : Bool → Effect → Settings → Settings
-settingsBy true (effect.Touch t) s = settingsAfter s t
-settingsBy false (effect.Touch t) s = s
-settingsBy named effect.Reset s = resetFrom s 0x1D
-settingsBy named effect.Nothing s = s
-
--- and what it does to what the channel has kept and read
-abbrev pub lineAct : Bool → Effect → Settings → Act
-lineAct true (effect.Touch t) s = receiveAct s t
-lineAct false (effect.Touch t) s = act.Nothing
-lineAct named effect.Reset s = act.Clear
-lineAct named effect.Nothing s = act.Nothing
-
-unfoldable pub ledgerAfter : Ledger → Bool → Effect → Ledger
-ledgerAfter l own f =
-    record {
-      own = settingsBy own f (l .own);
-      other = settingsBy (not own) f (l .other);
-      line = lineAfter (l .line) (lineAct own f (l .own)) (roomOf (l .own));
-    }
+-- an event as a channel meets it: it touches the channel, touches the other, resets the device, or does neither
+pub data Effect : Type 0 where
+  Own : Touch → Effect
+  Other : Touch → Effect
+  Reset : Effect
+  Nothing : Effect
 
 -- whether two sides are one
 abbrev pub isSide : Side → Side → Bool
@@ -99,10 +78,51 @@ isSide side.A side.B = false
 isSide side.B side.A = false
 isSide side.B side.B = true
 
--- what an event does goes by the stored registers of the channel that it names; a refused event is passed over
+-- what an event does goes by the stored registers of the channel that it names
+abbrev pub namedEffect : Bool → Ledger → Touch → Effect
+namedEffect true l t = pick (resetsBy (l .own) t) Reset (Own t)
+namedEffect false l t = pick (resetsBy (l .other) t) Reset (Other t)
+
+abbrev pub eventEffect : Side → Ledger → Event → Effect
+eventEffect w l (event.At channel t) = namedEffect (isSide w (sideNumbered channel)) l t
+eventEffect w l event.Reset = Reset
+eventEffect w l event.IrqLook = Nothing
+
+-- a refused event does nothing
+abbrev pub effectOn : Side → Ledger → Made → Effect
+effectOn w l (made.Event e) = eventEffect w l e
+effectOn w l (made.Refused r) = Nothing
+
+-- what it does to what the channel has kept and read
+abbrev pub changeBy : Settings → Effect → Change
+changeBy s (Own t) = receiveChange s t
+changeBy s (Other t) = Stay
+changeBy s Reset = Clear
+changeBy s Nothing = Stay
+
+-- and to the stored registers of a channel that it touches, or that the other is
+abbrev pub ownBy : Settings → Effect → Settings
+ownBy s (Own t) = settingsAfter s t
+ownBy s (Other t) = s
+ownBy s Reset = settingsReset s
+ownBy s Nothing = s
+
+abbrev pub otherBy : Settings → Effect → Settings
+otherBy s (Own t) = s
+otherBy s (Other t) = settingsAfter s t
+otherBy s Reset = settingsReset s
+otherBy s Nothing = s
+
+unfoldable pub ledgerAfter : Ledger → Effect → Ledger
+ledgerAfter l f =
+    record {
+      own = ownBy (l .own) f;
+      other = otherBy (l .other) f;
+      tally = tallyAfter (l .tally) (changeBy (l .own) f) (roomOf (l .own));
+    }
+
 unfoldable pub judgedBy : Side → Ledger → Made → Ledger
-judgedBy w l (made.Event e) = ledgerAfter l (isSide w (sideOf e)) (effectOf (settingsOf l (isSide w (sideOf e))) e)
-judgedBy w l (made.Refused r) = l
+judgedBy w l m = ledgerAfter l (effectOn w l m)
 
 abbrev pub judgedFrom : Side → Ledger → List Made → Ledger
 judgedFrom w l [] = l

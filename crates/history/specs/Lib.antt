@@ -1,12 +1,13 @@
--- Demand 3: the judge, what is claimed, and the proofs of it.
+-- Demand 3: the judge and the claims are what a reader must believe; the files behind them prove the claims. Then P1 to P12.
 pub mod Judge
 pub mod Demand3
-pub mod Line
+pub mod Tally
+pub mod Seen
 pub mod Agreement
-pub mod Reads
 pub mod Order
-pub mod Alone
+pub mod Reads
 pub mod Proved
 pub mod Numbers
 pub mod Files
+pub mod Alone
 pub mod Table

@@ -1,4 +1,4 @@
--- Histories of plain numbers and of events as they come, refused ones anywhere in them: demand 3 holds of these too.
+-- Laws: histories of plain numbers and of events as they come, refused ones anywhere in them: demand 3 holds of these too.
 use mathlib.Core.List.{List, [], _∷_, map}
 use Rattle.event.specs.declared.events.Event.{Event}
 use Rattle.event.specs.declared.events.Made.{Made}

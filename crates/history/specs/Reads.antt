@@ -1,37 +1,41 @@
--- What reads and arrivals reply, by the list that the receive queue stands for.
-use Prim.Native.Nat.{ℕ, _+_, _-_, _*_, _/_, _%_, _<_, _≤_}
+-- For proofs alone: what reads and arrivals reply, by the list that the receive queue stands for.
+use Prim.Native.Nat.{ℕ, _+_, _*_, _/_, _%_, _<_, _≤_}
 use native.Mathlib.Omega.{arith}
 use mathlib.Core.Path.{_≡_, refl, sym, ap, _∙_}
 use mathlib.Core.Bool.{Bool, true, false, not}
 use lib.ListN.{length, getD}
 use lib.Dec.{eqb, ltb}
+use Rattle.bits.specs.Choice.{pick, pick-by}
 use Rattle.bits.specs.Bits.{oneIf, partAt, bitAt}
 use Rattle.bits.specs.Laws.{flag-in}
 use Rattle.queue.specs.declared.Character.{Character}
-use Rattle.queue.specs.declared.Queue.{Queue}
-use Rattle.queue.specs.Queue.{none, actedOn}
+use Rattle.queue.specs.Change.{Change, Take}
+use Rattle.queue.specs.Queue.{none, staysAs, addsTo, movedBy, oldestOf}
 use Rattle.queue.specs.List.{items, someMark}
 use Rattle.queue.specs.Laws.{length-items, added-kept, oldest-head, oldest-mark-below, any-mark-items}
 use Rattle.event.specs.declared.events.Event.the-variants as event
+use Rattle.event.specs.declared.events.Touch.{Touch}
+use Rattle.event.specs.declared.events.Touch.the-variants as touch
 use Rattle.registers.specs.declared.register.Register.{Register}
 use Rattle.registers.specs.declared.register.Register.the-variants as register
 use Rattle.registers.specs.declared.arrival.Gate.{Gate}
 use Rattle.registers.specs.declared.arrival.Gate.the-variants as gate
-use Rattle.registers.specs.declared.settings.Settings.{Settings}
-use Rattle.registers.specs.declared.touch.Touch.the-variants as touch
 use Rattle.registers.specs.Windows.{same, registerAt}
-use Rattle.registers.specs.Arrivals.{arrivedByte, gateOf, roomOf}
-use Rattle.registers.specs.Touches.{offered, receivedBy, receiveAct}
+use Rattle.registers.specs.Arrivals.{doesPass, heardOf, roomOf}
+use Rattle.registers.specs.Queues.{clears}
+use Rattle.registers.specs.Laws.{same-is}
 use Rattle.lines.specs.declared.receive.Status.{Status}
 use Rattle.lines.specs.declared.interrupt.Interrupt.{Interrupt}
 use Rattle.lines.specs.Receive.{fateNumber, lsrOf}
 use Rattle.channel.specs.declared.channel.Channel.{Channel}
-use Rattle.channel.specs.Channel.{WellFormed, shownBy, statusOf, readOf, replyOf, touchedOf}
+use Rattle.channel.specs.Channel.{WellFormed, shownAt, statusOf, readOf}
+use Rattle.channel.specs.Touches.{arrivedCharacter, receiveChange, resetsBy}
+use Rattle.channel.specs.Acts.{readAct, offeredTo, arrivalAct, actOf}
+use Rattle.channel.specs.Step.{settledOf, stepAt}
 use Rattle.device.specs.declared.side.Side.{Side}
 use Rattle.device.specs.declared.side.Side.the-variants as side
 use Rattle.device.specs.declared.device.Device.{Device}
-use Rattle.device.specs.Effects.{sideNumbered, sideOf, effectOf, readEffect}
-use Rattle.device.specs.Device.{channelAt, settingsAt, touchedAt, stepOf}
+use Rattle.device.specs.Device.{channelAt, sideNumbered, touchedAt, namedStep, stepOf}
 use Rattle.history.specs.Demand3.{number}
 
 -- ---- the bits of LSR
@@ -65,41 +69,66 @@ module _ (l : Status) (mark-in : l .mark < 8) where
   unfolding bitAt partAt
   lsr-error = rw (parts .2) (flag-set (l .error))
 
--- ---- a read of an address goes to the register that it names
+-- ---- a read goes to the register that its address names
 side-number : (w : Side) → sideNumbered (number w) ≡ w
 unfolding sideNumbered
 side-number side.A = refl
 side-number side.B = refl
 
+channel-read : (ch : Channel) (address : ℕ) (r : Register) → registerAt (ch .settings) address ≡ r
+    → stepAt ch (touch.Read address) .reply ≡ readOf ch r (shownAt ch r)
+unfolding stepAt settledOf actOf readAct
+channel-read ch address r named = rw named
+
 module _ (d : Device) (w : Side) where
-  pub read-reply : (address : ℕ) (r : Register) → registerAt (channelAt d w .settings) address ≡ r → same r register.Closed ≡ false
-      → stepOf d (event.Read (number w) address) .reply ≡ readOf (channelAt d w) r (shownBy (channelAt d w) (touch.Read r))
-  unfolding stepOf sideOf effectOf readEffect settingsAt touchedAt touchedOf replyOf
-  read-reply address r named seen = rw (side-number w, named, seen) (rw (side-number w))
+  pub read-reply : (address : ℕ) (r : Register) → registerAt (channelAt d w .settings) address ≡ r
+      → stepOf d (event.At (number w) (touch.Read address)) .reply ≡ readOf (channelAt d w) r (shownAt (channelAt d w) r)
+  unfolding stepOf namedStep touchedAt resetsBy
+  read-reply address r named = rw (side-number w) (channel-read (channelAt d w) address r named)
 
   -- an arrival's reply, where the queue keeps it or not
   pub arrival-reply : (byte mark : ℕ)
-      → stepOf d (event.Arrival (number w) byte mark) .reply
-      ≡ fateNumber (gateOf (channelAt d w .settings) byte mark)
-      (actedOn (channelAt d w .rx) (receiveAct (channelAt d w .settings) (touch.Arrival byte mark)) (roomOf (channelAt d w .settings)) .kept)
-  unfolding stepOf sideOf effectOf settingsAt touchedAt touchedOf replyOf
+      → stepOf d (event.At (number w) (touch.Arrival byte mark)) .reply
+      ≡ fateNumber (heardOf (channelAt d w .settings) byte mark .gate) (offeredTo (channelAt d w) byte mark .kept)
+  unfolding stepOf namedStep touchedAt resetsBy stepAt settledOf actOf arrivalAct
   arrival-reply byte mark = rw (side-number w)
 
 -- what passes is kept exactly if fewer than room are queued
-pub fate-kept : (q : Queue) (s : Settings) (byte mark : ℕ)
-    → fateNumber (gateOf s byte mark) (actedOn q (receiveAct s (touch.Arrival byte mark)) (roomOf s) .kept)
-    ≡ fateNumber (gateOf s byte mark) (ltb (length (items q)) (roomOf s))
-unfolding receiveAct receivedBy actedOn fateNumber
-fate-kept q s byte mark = go (gateOf s byte mark) (record { byte = arrivedByte s byte mark; mark = mark })
+pub fate-kept : (ch : Channel) (byte mark : ℕ)
+    → fateNumber (heardOf (ch .settings) byte mark .gate) (offeredTo ch byte mark .kept)
+    ≡ fateNumber (heardOf (ch .settings) byte mark .gate) (ltb (length (items (ch .rx))) (roomOf (ch .settings)))
+unfolding fateNumber doesPass movedBy
+fate-kept ch byte mark = go (heardOf (ch .settings) byte mark .gate) (arrivedCharacter (ch .settings) byte mark)
   where
-    go : (g : Gate) (c : Character) → fateNumber g (actedOn q (offered g c) (roomOf s) .kept) ≡ fateNumber g (ltb (length (items q)) (roomOf s))
-    go gate.Passes c = ap (fateNumber gate.Passes) (added-kept q c (roomOf s))
+    go : (g : Gate) (c : Character)
+        → fateNumber g (pick (doesPass g) (addsTo (ch .rx) c (roomOf (ch .settings))) (staysAs (ch .rx)) .kept)
+        ≡ fateNumber g (ltb (length (items (ch .rx))) (roomOf (ch .settings)))
+    go gate.Passes c = ap (fateNumber gate.Passes) (added-kept (ch .rx) c (roomOf (ch .settings)))
     go gate.Off c = refl
     go gate.Elsewhere c = refl
 
+-- only a read of the receive register takes a character, and it replies with the oldest
+pub taken-reply : (ch : Channel) (t : Touch) → receiveChange (ch .settings) t ≡ Take → stepAt ch t .reply ≡ oldestOf (ch .rx) .byte
+unfolding receiveChange readOf
+taken-reply ch (touch.Write address byte) =
+    pick-by (λ (a : Change). a ≡ Take → stepAt ch (touch.Write address byte) .reply ≡ oldestOf (ch .rx) .byte)
+    (clears (ch .settings) (registerAt (ch .settings) address) byte 1) (λ _ e. cc) (λ _ e. cc)
+taken-reply ch (touch.Read address) =
+    pick-by (λ (a : Change). a ≡ Take → stepAt ch (touch.Read address) .reply ≡ oldestOf (ch .rx) .byte)
+    (same (registerAt (ch .settings) address) register.RhrThr)
+    (λ h e. channel-read ch address register.RhrThr (same-is (registerAt (ch .settings) address) register.RhrThr h))
+    (λ _ e. cc)
+taken-reply ch (touch.Arrival byte mark) =
+    pick-by (λ (a : Change). a ≡ Take → stepAt ch (touch.Arrival byte mark) .reply ≡ oldestOf (ch .rx) .byte)
+    (doesPass (heardOf (ch .settings) byte mark .gate)) (λ _ e. cc) (λ _ e. cc)
+taken-reply ch touch.Slot = λ e. cc
+taken-reply ch (touch.Pins value) = λ e. cc
+taken-reply ch touch.Quiet = λ e. cc
+taken-reply ch touch.RtsLook = λ e. cc
+
 -- ---- what a channel's reads give, by the list that its receive queue stands for
 module _ (ch : Channel) (ok : WellFormed ch) (shown : Interrupt) where
-  pub rhr-read : readOf ch register.Rhr shown ≡ getD (items (ch .rx)) 0 none .byte
+  pub rhr-read : readOf ch register.RhrThr shown ≡ getD (items (ch .rx)) 0 none .byte
   unfolding readOf
   rhr-read = ap (λ (c : Character). c .byte) (oldest-head (ch .rx) (ok .rx-in))
 

@@ -1,29 +1,36 @@
--- P1 to P12 of "Cases on each side", as one table: what the definitions give, beside what document 01 says.
+-- Laws: P1 to P12 of "Cases on each side", as one table: what the definitions give, beside what document 01 says.
 use Prim.Native.Nat.{ℕ}
 use mathlib.Core.Path.{_≡_, refl}
 use mathlib.Core.List.{List, [], _∷_, map}
 use lib.ListN.{replicate}
-use Rattle.bits.specs.Bits.{oneIf, bitAt, partAt, replacedAt, cutTo}
-use Rattle.queue.specs.Queue.{emptyQueue, behind, addedTo, clearedFrom, oldestOf, markedFrom, anyMarkOf, actedOn}
+use Rattle.bits.specs.Bits.{oneIf, differs, bitAt, partAt, replacedAt, cutTo}
+use Rattle.queue.specs.Queue.{emptyQueue, oldestOf, markedFrom, anyMarkOf, addsTo, takesFrom, clearsAll, staysAs, afterOf}
 use Rattle.event.specs.declared.events.Event.{Event}
 use Rattle.event.specs.declared.events.Event.the-variants as event
+use Rattle.event.specs.declared.events.Touch.the-variants as touch
 use Rattle.event.specs.declared.number.Number.{Number}
 use Rattle.event.specs.declared.number.Number.the-variants as number
 use Rattle.event.specs.Refusals.{refusalNumber}
 use Rattle.event.specs.Numbers.{secondAt, numberAt}
-use Rattle.registers.specs.Windows.{generalAt, enhancedAt, registerAt}
-use Rattle.registers.specs.Writes.{guardOpen, ierWritten, fcrWritten, efcrWritten, writtenTo, resetFrom}
-use Rattle.registers.specs.Arrivals.{arrivedByte, equalsXoff2, unlessOff, gateOf, efcrHeard, heardBy, roomOf}
+use Rattle.registers.specs.Windows.{generalAt, enhancedAt, registerAt, tcrOpen}
+use Rattle.registers.specs.Writes.{guardOpen, ierWritten, fcrWritten, efcrWritten, takenBy, noSetting, settingOf, ifSet, withSetting, resetsDevice}
+use Rattle.registers.specs.Arrivals.{modeOf, arrivedByte, equalsXoff2, doesPass, unlessOff, receiverSet, heardPlain, heardNinth, heardAddress, heardOf, roomOf}
 use Rattle.registers.specs.Levels.{fours, transmitLevel}
-use Rattle.registers.specs.Touches.{settingsAfter, clears, clearing, receivedBy, receiveAct, sentBy, transmitAct}
-use Rattle.lines.specs.Receive.{overrunAfter, lineAfter, fateNumber, lsrOf}
-use Rattle.lines.specs.Transmit.{shiftAfter, thrCondition}
+use Rattle.registers.specs.Queues.{fifoChanges, clears}
+use Rattle.lines.specs.Receive.{lineArrived, lineRead, lineCleared, fateNumber, lsrOf}
+use Rattle.lines.specs.Transmit.{spacesOf, allFree, isBusy, thrCondition}
+use Rattle.lines.specs.Rts.{latchAfter, rtsOf}
+use Rattle.lines.specs.Modem.{modemRead}
 use Rattle.lines.specs.Interrupts.{codeOf, lineStatusPending, timeoutPending, receivePending, transmitPending, modemPending, specialPending, flowPending, pendingOf, iirOf}
-use Rattle.lines.specs.Flags.{flagsCleared, flagsRead, flagsAfter, flagsSettled}
-use Rattle.channel.specs.Channel.{pendingAt, momentOf, shownBy, statusOf, readOf, replyOf, actOf, latched, settled, touchedOf, resetOf, blankChannel}
+use Rattle.lines.specs.Flags.{flagsCleared, flagsArrived, thrSettled, flagsSettled}
+use Rattle.channel.specs.State.{withLine, withModem, withFlags, withLatch}
+use Rattle.channel.specs.Channel.{pendingAt, shownAt, statusOf, readOf}
+use Rattle.channel.specs.Touches.{resetsBy}
+use Rattle.channel.specs.Acts.{sendsOf, writeAct, readAct, arrivalAct, actOf}
+use Rattle.channel.specs.Step.{momentOf, momentAt, settledOf, stepAt, afterStep}
 use Rattle.device.specs.declared.device.Device.{Device}
-use Rattle.device.specs.Effects.{sideNumbered, sideOf, resetsDevice, writeEffect, readEffect, effectOf}
-use Rattle.device.specs.Device.{settingsAt, touchedAt, lookReply, resetDevice, newDevice, stepOf}
+use Rattle.device.specs.Reset.{settingsReset, linesReset, resetOf, blankSettings, blankChannel, resetDevice, newDevice}
+use Rattle.device.specs.Device.{sideNumbered, touchedAt, namedStep, stepOf}
 
 -- the replies to events, each in turn from a new device, and the device after them
 abbrev repliesFrom : Device → List Event → List ℕ
@@ -49,13 +56,13 @@ refusalOf (number.Broken r) = refusalNumber r ∷ []
 
 -- events of channel 0
 abbrev write : ℕ → ℕ → Event
-write address byte = event.Write 0 address byte
+write address byte = event.At 0 (touch.Write address byte)
 
 abbrev readAt : ℕ → Event
-readAt address = event.Read 0 address
+readAt address = event.At 0 (touch.Read address)
 
 abbrev arrival : ℕ → ℕ → Event
-arrival byte mark = event.Arrival 0 byte mark
+arrival byte mark = event.At 0 (touch.Arrival byte mark)
 
 -- LSR 4:2 and LSR 7 of a reply
 abbrev lsrBits : List ℕ → List ℕ
@@ -96,5 +103,5 @@ table =
     ∷ []
 
 pub cases-hold : map (λ row. row .given) table ≡ map (λ row. row .expected) table
-unfolding table oneIf bitAt partAt replacedAt cutTo emptyQueue behind addedTo clearedFrom oldestOf markedFrom anyMarkOf actedOn secondAt numberAt generalAt enhancedAt registerAt guardOpen ierWritten fcrWritten efcrWritten writtenTo resetFrom arrivedByte equalsXoff2 unlessOff gateOf efcrHeard heardBy roomOf fours transmitLevel settingsAfter clears clearing receivedBy receiveAct sentBy transmitAct overrunAfter lineAfter fateNumber lsrOf shiftAfter thrCondition codeOf lineStatusPending timeoutPending receivePending transmitPending modemPending specialPending flowPending pendingOf iirOf flagsCleared flagsRead flagsAfter pendingAt momentOf shownBy statusOf readOf replyOf actOf latched settled touchedOf resetOf blankChannel sideNumbered sideOf resetsDevice writeEffect readEffect effectOf settingsAt touchedAt resetDevice newDevice lookReply stepOf flagsSettled
+unfolding table oneIf differs bitAt partAt replacedAt cutTo emptyQueue oldestOf markedFrom anyMarkOf addsTo takesFrom clearsAll staysAs afterOf secondAt numberAt generalAt enhancedAt registerAt tcrOpen guardOpen ierWritten fcrWritten efcrWritten takenBy noSetting settingOf ifSet withSetting resetsDevice modeOf arrivedByte equalsXoff2 doesPass unlessOff receiverSet heardPlain heardNinth heardAddress heardOf roomOf fours transmitLevel fifoChanges clears lineArrived lineRead lineCleared fateNumber lsrOf spacesOf allFree isBusy thrCondition latchAfter rtsOf modemRead codeOf lineStatusPending timeoutPending receivePending transmitPending modemPending specialPending flowPending pendingOf iirOf flagsCleared flagsArrived thrSettled flagsSettled withLine withModem withFlags withLatch pendingAt shownAt statusOf readOf resetsBy sendsOf writeAct readAct arrivalAct actOf momentOf momentAt settledOf stepAt afterStep settingsReset linesReset resetOf blankSettings blankChannel resetDevice newDevice sideNumbered touchedAt namedStep stepOf
 cases-hold = refl

@@ -1,7 +1,9 @@
--- LSR, IIR and MSR joined from their parts are the sums that the definitions state.
+-- For proofs alone: LSR, IIR and MSR joined from their parts are the sums that the definitions state.
 use Prim.Native.Nat.{ℕ, _+_, _*_, _<_, _≤_}
+use native.Mathlib.Nat.{add-comm}
 use native.Mathlib.Omega.{arith}
-use mathlib.Core.Path.{_≡_}
+use mathlib.Core.Path.{_≡_, refl, ap, _∙_}
+use mathlib.Core.Bool.{Bool, true, false}
 use Rattle.bits.specs.Choice.{pick, pick-by}
 use Rattle.bits.specs.Bits.{oneIf, bitAt, joinedAt}
 use Rattle.bits.specs.Laws.{flag-in, joined-sum}
@@ -44,11 +46,17 @@ code-in interrupt.Special = omega arith
 code-in interrupt.Flow = omega arith
 code-in interrupt.Nothing = omega arith
 
+fifo-bits : (fifo : Bool) → pick fifo 3 0 * 64 ≡ pick fifo 0xC0 0
+fifo-bits true = refl
+fifo-bits false = refl
+
 pub iir-sum : (i : Interrupt) (s : Settings) → joinedAt (codeOf i) 6 (pick (bitAt (s .fcr) 0) 3 0) ≡ iirOf i s
 unfolding iirOf
 iir-sum i s =
     joined-sum (codeOf i) 6 (pick (bitAt (s .fcr) 0) 3 0) (code-in i)
     (pick-by (λ (n : ℕ). n < 4) (bitAt (s .fcr) 0) (λ _. omega arith) (λ _. omega arith))
+    ∙ add-comm (codeOf i) (pick (bitAt (s .fcr) 0) 3 0 * 64)
+    ∙ ap (λ (n : ℕ). n + codeOf i) (fifo-bits (bitAt (s .fcr) 0))
 
 pub msr-sum : (m : Modem) → m .pins < 16 → m .changes < 16 → joinedAt (m .changes) 4 (m .pins) ≡ msrOf m
 unfolding msrOf

@@ -1,5 +1,5 @@
--- "Interrupts, highest first (Table 21)".
-use Prim.Native.Nat.{ℕ, _+_, _*_}
+-- Definitions: "Interrupts, highest first (Table 21)".
+use Prim.Native.Nat.{ℕ, _+_}
 use mathlib.Core.Bool.{Bool, not, _&&_, _||_}
 use lib.Dec.{eqb, leb}
 use Rattle.bits.specs.Choice.{pick}
@@ -35,18 +35,18 @@ triggerLevel s = pick (bitAt (s .fcr) 0) (receiveLevel s) (record { 0 = 1 })
 unfoldable pub modemChanged : Settings → Modem → Bool
 modemChanged s m = pick (bitAt (s .efr) 7) (not (eqb (partAt (m .changes) 1 3) 0)) (not (eqb (m .changes) 0))
 
--- the table's rows; `count` characters are queued, and `error` is LSR 7
+-- the table's rows; so many characters are received, and `error` is LSR 7
 -- 06: "IER 2 and (overrun or LSR 7)"
 unfoldable pub lineStatusPending : Settings → Line → Bool → Bool
 lineStatusPending s line error = bitAt (s .ier) 2 && (line .overrun || error)
 
 -- 0C: "IER 0, FCR 0, queue not empty, quiet count 4"
-unfoldable pub timeoutPending : Settings → Line → ℕ → Bool
-timeoutPending s line count = bitAt (s .ier) 0 && bitAt (s .fcr) 0 && not (eqb count 0) && eqb (line .quiet) 4
+unfoldable pub timeoutPending : Settings → Line → Characters → Bool
+timeoutPending s line received = bitAt (s .ier) 0 && bitAt (s .fcr) 0 && not (eqb (received .0) 0) && eqb (line .quiet) 4
 
 -- 04: "IER 0 and count ≥ level"
-unfoldable pub receivePending : Settings → ℕ → Bool
-receivePending s count = bitAt (s .ier) 0 && leb (triggerLevel s .0) count
+unfoldable pub receivePending : Settings → Characters → Bool
+receivePending s received = bitAt (s .ier) 0 && leb (triggerLevel s .0) (received .0)
 
 -- 02: "IER 1 and THR flag"
 unfoldable pub transmitPending : Settings → Flags → Bool
@@ -65,11 +65,11 @@ unfoldable pub flowPending : Settings → Flags → Bool
 flowPending s flags = bitAt (s .ier) 7 && flags .cts || bitAt (s .ier) 6 && flags .rts
 
 -- "highest first"
-unfoldable pub pendingOf : Settings → Line → Modem → Flags → ℕ → Bool → Interrupt
-pendingOf s line modem flags count error =
+unfoldable pub pendingOf : Settings → Line → Modem → Flags → Characters → Bool → Interrupt
+pendingOf s line modem flags received error =
     pick (lineStatusPending s line error) interrupt.LineStatus
-    (pick (timeoutPending s line count) interrupt.Timeout
-    (pick (receivePending s count) interrupt.Receive
+    (pick (timeoutPending s line received) interrupt.Timeout
+    (pick (receivePending s received) interrupt.Receive
     (pick (transmitPending s flags) interrupt.Transmit
     (pick (modemPending s modem) interrupt.Modem
     (pick (specialPending s flags) interrupt.Special
@@ -77,4 +77,4 @@ pendingOf s line modem flags count error =
 
 -- "IIR is C0 (if FCR 0) plus the code"
 unfoldable pub iirOf : Interrupt → Settings → ℕ
-iirOf i s = codeOf i + pick (bitAt (s .fcr) 0) 3 0 * 64
+iirOf i s = pick (bitAt (s .fcr) 0) 0xC0 0 + codeOf i

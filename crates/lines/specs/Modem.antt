@@ -1,4 +1,4 @@
--- "Pins", of "Interrupts". Pin values: CD 8, RI 4, DSR 2, CTS 1.
+-- Definitions: "Pins", of "Interrupts". Pin values: CD 8, RI 4, DSR 2, CTS 1.
 use Prim.Native.Nat.{ℕ, _+_, _*_}
 use mathlib.Core.Bool.{Bool, not, _&&_}
 use lib.Bits.{bitOr, bitXor}
@@ -7,8 +7,6 @@ use Rattle.bits.specs.Bits.{bitAt}
 use Rattle.registers.specs.declared.register.Register.{Register}
 use Rattle.registers.specs.declared.register.Register.the-variants as register
 use Rattle.registers.specs.declared.settings.Settings.{Settings}
-use Rattle.registers.specs.declared.touch.Touch.{Touch}
-use Rattle.registers.specs.declared.touch.Touch.the-variants as touch
 use Rattle.registers.specs.Windows.{same}
 use Rattle.lines.specs.declared.modem.Modem.{Modem}
 
@@ -25,15 +23,7 @@ pinsChanged m value = record { pins = value; changes = bitOr (m .changes) (bitXo
 
 -- ".. and cleared by an MSR read"
 unfoldable pub modemRead : Modem → Register → Modem
-modemRead m read = pick (same read register.Msr) (record { pins = m .pins; changes = 0 }) m
-
-unfoldable pub modemAfter : Modem → Touch → Modem
-modemAfter m (touch.Write written byte) = m
-modemAfter m (touch.Read read) = modemRead m read
-modemAfter m (touch.Arrival byte mark) = m
-modemAfter m touch.Slot = m
-modemAfter m (touch.Pins value) = pinsChanged m value
-modemAfter m touch.Quiet = m
+modemRead m read = record { pins = m .pins; changes = pick (same read register.Msr) 0 (m .changes) }
 
 -- "MSR 7:4 show CD, RI, DSR, CTS; MSR 3:0" the changes
 unfoldable pub msrOf : Modem → ℕ

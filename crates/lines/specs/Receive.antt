@@ -1,43 +1,33 @@
--- "Receive queue": what an event makes of the overrun and the quiet count, the fates, and LSR.
+-- Definitions: "Receive queue": what events make of the overrun and the quiet count, the fates, and LSR.
 use Prim.Native.Nat.{ℕ, _+_, _*_}
-use mathlib.Core.Bool.{Bool, false, not, _&&_, _||_}
+use mathlib.Core.Bool.{Bool, not, _&&_, _||_}
 use lib.Dec.{ltb}
 use Rattle.bits.specs.Choice.{pick}
 use Rattle.bits.specs.Bits.{oneIf}
+use Rattle.registers.specs.declared.register.Register.{Register}
 use Rattle.registers.specs.declared.register.Register.the-variants as register
-use Rattle.registers.specs.declared.settings.Settings.{Settings}
 use Rattle.registers.specs.declared.arrival.Gate.{Gate}
 use Rattle.registers.specs.declared.arrival.Gate.the-variants as gate
-use Rattle.registers.specs.declared.touch.Touch.{Touch}
-use Rattle.registers.specs.declared.touch.Touch.the-variants as touch
 use Rattle.registers.specs.Windows.{same}
-use Rattle.registers.specs.Touches.{clears}
 use Rattle.lines.specs.declared.receive.Line.{Line}
 use Rattle.lines.specs.declared.receive.Status.{Status}
 
--- "Quiet adds 1 up to 4; an arrival of any fate, an RHR read or a receive clear makes it 0."
-unfoldable pub quietAfter : Settings → ℕ → Touch → ℕ
-quietAfter s quiet (touch.Write written byte) = pick (same written register.Iir && clears s byte 1) 0 quiet
-quietAfter s quiet (touch.Read read) = pick (same read register.Rhr) 0 quiet
-quietAfter s quiet (touch.Arrival byte mark) = 0
-quietAfter s quiet touch.Slot = quiet
-quietAfter s quiet (touch.Pins value) = quiet
-quietAfter s quiet touch.Quiet = quiet + oneIf (ltb quiet 4)
+-- "else lost (1) and overrun is set"; "an arrival of any fate .. makes [the quiet count] 0"
+unfoldable pub lineArrived : Line → Bool → Line
+lineArrived l kept = record { overrun = l .overrun || not kept; quiet = 0 }
 
-unfoldable pub readsLsr : Touch → Bool
-readsLsr (touch.Write written byte) = false
-readsLsr (touch.Read read) = same read register.Lsr
-readsLsr (touch.Arrival byte mark) = false
-readsLsr touch.Slot = false
-readsLsr (touch.Pins value) = false
-readsLsr touch.Quiet = false
+-- LSR: "1 overrun, cleared by this read"; "an RHR read .. makes it 0"
+unfoldable pub lineRead : Line → Register → Line
+lineRead l read =
+    record { overrun = l .overrun && not (same read register.Lsr); quiet = pick (same read register.RhrThr) 0 (l .quiet) }
 
--- "else lost (1) and overrun is set"; LSR: "1 overrun, cleared by this read". "Overrun stays" over a clear.
-unfoldable pub overrunAfter : Bool → Bool → Touch → Bool
-overrunAfter overrun kept t = not kept || overrun && not (readsLsr t)
+-- "Overrun stays" over a clear; "a receive clear makes it 0"
+unfoldable pub lineCleared : Line → Bool → Line
+lineCleared l clears = record { overrun = l .overrun; quiet = pick clears 0 (l .quiet) }
 
-unfoldable pub lineAfter : Line → Settings → Bool → Touch → Line
-lineAfter l s kept t = record { overrun = overrunAfter (l .overrun) kept t; quiet = quietAfter s (l .quiet) t }
+-- "Quiet adds 1 up to 4"
+unfoldable pub lineQuieter : Line → Line
+lineQuieter l = record { overrun = l .overrun; quiet = l .quiet + oneIf (ltb (l .quiet) 4) }
 
 -- "Fates: 0 kept, 1 lost for want of room, 2 dropped by a disabled receiver, 3 dropped by address."
 unfoldable pub fateNumber : Gate → Bool → ℕ

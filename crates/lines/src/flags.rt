@@ -1,11 +1,7 @@
 // The flags that interrupts are made from.
 use crate::interrupt::Interrupt;
-use crate::modem::Modem;
-use registers::Register;
-use registers::Settings;
-use registers::Touch;
 ghost use mathlib.Core.Path.{_≡_};
-ghost use Rattle.lines.specs.Flags.{flagsCleared, flagsRead, flagsArrived, flagsPins, flagsAfter, flagsSettled};
+ghost use Rattle.lines.specs.Flags.{flagsCleared, flagsArrived, flagsPins, flagsSettled};
 
 #[repr(C)]
 pub struct Flags {
@@ -22,8 +18,8 @@ pub struct Moment {
 }
 
 impl Flags {
-    // What a read of IIR clears, by the interrupt that it shows.
-    fn cleared(self, shown: Interrupt) -> Flags
+    // After a read that shows an interrupt: only one of IIR shows any.
+    pub fn cleared(self, shown: Interrupt) -> Flags
         ensures { λ r. ⌜ r ≡ flagsCleared self shown ⌝ }
     {
         let mut next = self;
@@ -49,16 +45,8 @@ impl Flags {
         }
     }
 
-    fn read(self, register: Register, shown: Interrupt) -> Flags
-        ensures { λ r. ⌜ r ≡ flagsRead self register shown ⌝ }
-    {
-        if register.is(Register::Iir) {
-            return self.cleared(shown);
-        }
-        self
-    }
-
-    fn arrived(self, special: bool) -> Flags
+    // After an arrival that is a special match, or is none.
+    pub fn arrived(self, special: bool) -> Flags
         ensures { λ r. ⌜ r ≡ flagsArrived self special ⌝ }
     {
         let mut next = self;
@@ -66,29 +54,13 @@ impl Flags {
         next
     }
 
-    fn pins(self, off: bool) -> Flags
+    // After new pin values that turn CTS off, or do not.
+    pub fn pins(self, off: bool) -> Flags
         ensures { λ r. ⌜ r ≡ flagsPins self off ⌝ }
     {
         let mut next = self;
         next.cts = self.cts | off;
         next
-    }
-
-    // After the act of a touch; `shown` is the interrupt that was pending before it.
-    pub fn after(self, settings: Settings, modem: Modem, shown: Interrupt, touch: Touch) -> Flags
-        ensures { λ r. ⌜ r ≡ flagsAfter self settings modem shown touch ⌝ }
-    {
-        match touch {
-            Touch::Write {
-                register: _,
-                byte: _,
-            } => self,
-            Touch::Read { register } => self.read(register, shown),
-            Touch::Arrival { byte, mark } => self.arrived(settings.special(byte, mark)),
-            Touch::Slot => self,
-            Touch::Pins { value } => self.pins(modem.cts_off(settings, value)),
-            Touch::Quiet => self,
-        }
     }
 
     // After the act: the RTS flag by RTS before and now, then the THR flag by its condition before and now.

@@ -76,16 +76,16 @@ fn line_status(settings: Settings, line: Line, error: bool) -> bool
     bit(settings.ier, 2) & (line.overrun | error)
 }
 
-fn timeout(settings: Settings, line: Line, count: u8) -> bool
-    ensures { λ r. ⌜ r ≡ timeoutPending settings line count ⌝ }
+fn timeout(settings: Settings, line: Line, received: Characters) -> bool
+    ensures { λ r. ⌜ r ≡ timeoutPending settings line received ⌝ }
 {
-    bit(settings.ier, 0) & bit(settings.fcr, 0) & (count != 0) & (line.quiet == 4)
+    bit(settings.ier, 0) & bit(settings.fcr, 0) & (received.0 != 0) & (line.quiet == 4)
 }
 
-fn receive(settings: Settings, count: u8) -> bool
-    ensures { λ r. ⌜ r ≡ receivePending settings count ⌝ }
+fn receive(settings: Settings, received: Characters) -> bool
+    ensures { λ r. ⌜ r ≡ receivePending settings received ⌝ }
 {
-    bit(settings.ier, 0) & Characters(count).reaches(trigger_level(settings))
+    bit(settings.ier, 0) & received.reaches(trigger_level(settings))
 }
 
 fn transmit(settings: Settings, flags: Flags) -> bool
@@ -112,24 +112,24 @@ fn flow(settings: Settings, flags: Flags) -> bool
     (bit(settings.ier, 7) & flags.cts) | (bit(settings.ier, 6) & flags.rts)
 }
 
-// The highest interrupt pending, where `count` characters are queued and `error` says whether one of them has a mark.
+// The highest interrupt pending, where so many characters are received and `error` says whether one of them has a mark.
 pub fn pending(
     settings: Settings,
     line: Line,
     modem: Modem,
     flags: Flags,
-    count: u8,
+    received: Characters,
     error: bool,
 ) -> Interrupt
-    ensures { λ r. ⌜ r ≡ pendingOf settings line modem flags count error ⌝ }
+    ensures { λ r. ⌜ r ≡ pendingOf settings line modem flags received error ⌝ }
 {
     if line_status(settings, line, error) {
         return Interrupt::LineStatus;
     }
-    if timeout(settings, line, count) {
+    if timeout(settings, line, received) {
         return Interrupt::Timeout;
     }
-    if receive(settings, count) {
+    if receive(settings, received) {
         return Interrupt::Receive;
     }
     if transmit(settings, flags) {

@@ -1,12 +1,12 @@
 // The modem pins and the changes that MSR shows.
 use bits::bit;
+use bits::chosen;
 use bits::joined;
 use registers::Register;
 use registers::Settings;
-use registers::Touch;
 ghost use mathlib.Core.Path.{_≡_};
 ghost use Prim.Native.Nat.{_<_};
-ghost use Rattle.lines.specs.Modem.{ctsAsserted, ctsOff, pinsChanged, modemRead, modemAfter, msrOf};
+ghost use Rattle.lines.specs.Modem.{ctsAsserted, ctsOff, pinsChanged, modemRead, msrOf};
 
 #[repr(C)]
 pub struct Modem {
@@ -28,7 +28,8 @@ impl Modem {
         self.cts() & !bit(value, 0) & !bit(settings.efr, 7)
     }
 
-    fn changed(self, value: u8) -> Modem
+    // With new pin values.
+    pub fn changed(self, value: u8) -> Modem
         ensures { λ r. ⌜ r ≡ pinsChanged self value ⌝ }
     {
         Modem {
@@ -37,31 +38,13 @@ impl Modem {
         }
     }
 
-    fn read(self, register: Register) -> Modem
+    // After a register is read.
+    pub fn read(self, register: Register) -> Modem
         ensures { λ r. ⌜ r ≡ modemRead self register ⌝ }
     {
-        if register.is(Register::Msr) {
-            return Modem {
-                pins: self.pins,
-                changes: 0,
-            };
-        }
-        self
-    }
-
-    pub fn after(self, touch: Touch) -> Modem
-        ensures { λ r. ⌜ r ≡ modemAfter self touch ⌝ }
-    {
-        match touch {
-            Touch::Write {
-                register: _,
-                byte: _,
-            } => self,
-            Touch::Read { register } => self.read(register),
-            Touch::Arrival { byte: _, mark: _ } => self,
-            Touch::Slot => self,
-            Touch::Pins { value } => self.changed(value),
-            Touch::Quiet => self,
+        Modem {
+            pins: self.pins,
+            changes: chosen(register.is(Register::Msr), 0, self.changes),
         }
     }
 

@@ -4,11 +4,9 @@ use bits::joined;
 use bits::one_if;
 use registers::Gate;
 use registers::Register;
-use registers::Settings;
-use registers::Touch;
 ghost use mathlib.Core.Path.{_≡_};
 ghost use Prim.Native.Nat.{_<_, _≤_};
-ghost use Rattle.lines.specs.Receive.{quietAfter, readsLsr, overrunAfter, lineAfter, fateNumber, lsrOf};
+ghost use Rattle.lines.specs.Receive.{lineArrived, lineRead, lineCleared, lineQuieter, fateNumber, lsrOf};
 
 #[repr(C)]
 pub struct Line {
@@ -16,55 +14,46 @@ pub struct Line {
     pub quiet: u8,
 }
 
-fn quiet_after(settings: Settings, quiet: u8, touch: Touch) -> u8
-    requires { ⌜ quiet ≤ 4 ⌝ }
-    ensures { λ r. ⌜ r ≡ quietAfter settings quiet touch ⌝ }
-{
-    match touch {
-        Touch::Write { register, byte } => chosen(
-            register.is(Register::Iir) & settings.clears(byte, 1),
-            0,
-            quiet,
-        ),
-        Touch::Read { register } => chosen(register.is(Register::Rhr), 0, quiet),
-        Touch::Arrival { byte: _, mark: _ } => 0,
-        Touch::Slot => quiet,
-        Touch::Pins { value: _ } => quiet,
-        Touch::Quiet => quiet + one_if(quiet < 4),
-    }
-}
-
-fn reads_lsr(touch: Touch) -> bool
-    ensures { λ r. ⌜ r ≡ readsLsr touch ⌝ }
-{
-    match touch {
-        Touch::Write {
-            register: _,
-            byte: _,
-        } => false,
-        Touch::Read { register } => register.is(Register::Lsr),
-        Touch::Arrival { byte: _, mark: _ } => false,
-        Touch::Slot => false,
-        Touch::Pins { value: _ } => false,
-        Touch::Quiet => false,
-    }
-}
-
-fn overrun_after(overrun: bool, kept: bool, touch: Touch) -> bool
-    ensures { λ r. ⌜ r ≡ overrunAfter overrun kept touch ⌝ }
-{
-    !kept | (overrun & !reads_lsr(touch))
-}
-
 impl Line {
-    // After a touch by which the receive queue kept what it was offered, or did not.
-    pub fn after(self, settings: Settings, kept: bool, touch: Touch) -> Line
-        requires { ⌜ self .quiet ≤ 4 ⌝ }
-        ensures { λ r. ⌜ r ≡ lineAfter self settings kept touch ⌝ }
+    // After an arrival that the queue kept or was not offered, or that it lost.
+    pub fn arrived(self, kept: bool) -> Line
+        ensures { λ r. ⌜ r ≡ lineArrived self kept ⌝ }
     {
         Line {
-            overrun: overrun_after(self.overrun, kept, touch),
-            quiet: quiet_after(settings, self.quiet, touch),
+            overrun: self.overrun | !kept,
+            quiet: 0,
+        }
+    }
+
+    // After a register is read.
+    pub fn read(self, register: Register) -> Line
+        ensures { λ r. ⌜ r ≡ lineRead self register ⌝ }
+    {
+        Line {
+            overrun: self.overrun & !register.is(Register::Lsr),
+            quiet: chosen(register.is(Register::RhrThr), 0, self.quiet),
+        }
+    }
+
+    // After a write that clears the receive queue, or does not.
+    pub fn cleared(self, clears: bool) -> Line
+        ensures { λ r. ⌜ r ≡ lineCleared self clears ⌝ }
+    {
+        Line {
+            overrun: self.overrun,
+            quiet: chosen(clears, 0, self.quiet),
+        }
+    }
+
+    // After a quiet character time.
+    pub fn quieter(self) -> Line
+        requires { ⌜ self .quiet ≤ 4 ⌝ }
+        ensures { λ r. ⌜ r ≡ lineQuieter self ⌝ }
+    {
+        let quiet = self.quiet;
+        Line {
+            overrun: self.overrun,
+            quiet: quiet + one_if(quiet < 4),
         }
     }
 }

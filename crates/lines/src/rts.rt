@@ -1,45 +1,45 @@
 // The RTS line and the auto-RTS latch.
 use bits::bit;
+use bits::differ;
 use registers::Characters;
 use registers::Settings;
 ghost use mathlib.Core.Path.{_≡_};
 ghost use Rattle.lines.specs.Rts.{haltReached, resumeReached, latchAfter, rtsOf};
 
-fn halts(settings: Settings, count: u8) -> bool
-    ensures { λ r. ⌜ r ≡ haltReached settings count ⌝ }
+fn halts(settings: Settings, received: Characters) -> bool
+    ensures { λ r. ⌜ r ≡ haltReached settings received ⌝ }
 {
-    Characters(count).reaches(settings.halt_level())
+    received.reaches(settings.halt_level())
 }
 
-fn resumes(settings: Settings, count: u8) -> bool
-    ensures { λ r. ⌜ r ≡ resumeReached settings count ⌝ }
+fn resumes(settings: Settings, received: Characters) -> bool
+    ensures { λ r. ⌜ r ≡ resumeReached settings received ⌝ }
 {
-    settings.resume_level().reaches(Characters(count))
+    settings.resume_level().reaches(received)
 }
 
-// The latch after an event that leaves so many characters queued.
-pub fn latch_after(settings: Settings, count: u8, latch: bool) -> bool
-    ensures { λ r. ⌜ r ≡ latchAfter settings count latch ⌝ }
+// The latch after an event that leaves so many characters in the receive queue.
+pub fn latch_after(settings: Settings, received: Characters, latch: bool) -> bool
+    ensures { λ r. ⌜ r ≡ latchAfter settings received latch ⌝ }
 {
     if !bit(settings.efr, 6) {
         return true;
     }
-    if halts(settings, count) {
+    if halts(settings, received) {
         return false;
     }
-    if resumes(settings, count) {
+    if resumes(settings, received) {
         return true;
     }
     latch
 }
 
-// Whether RTS is asserted.
+// Whether RTS is asserted, where something is sent or nothing is.
 pub fn rts_asserted(settings: Settings, latch: bool, busy: bool) -> bool
     ensures { λ r. ⌜ r ≡ rtsOf settings latch busy ⌝ }
 {
     if bit(settings.efcr, 4) {
-        let turned = bit(settings.efcr, 5);
-        return (busy & !turned) | (!busy & turned);
+        return differ(busy, bit(settings.efcr, 5));
     }
     if bit(settings.efr, 6) {
         return latch;

@@ -1,3 +1,5 @@
--- What the proofs of single functions cite.
+-- For proofs alone: what those of single functions cite, and what walks over a lent queue share.
 pub mod OneWay
 pub mod Search
+pub mod Lent
+pub mod Called

@@ -1,4 +1,4 @@
--- The steps of the search for a mark, at the i-th of the n places from s on.
+-- For proofs alone: the steps of the search for a mark, at the i-th of the n places from s on.
 use Prim.Native.Nat.{ℕ, zero, suc, _+_, _-_, _%_, _<_, _≤_}
 use native.Mathlib.Nat.{add-zero, sub-zero}
 use native.Mathlib.Omega.{arith}
@@ -8,7 +8,6 @@ use mathlib.Core.List.{List}
 use lib.ListN.{getD}
 use borrow.Author.Tests.{ne-eqb}
 use Rattle.queue.specs.Queue.{markedFrom}
-use Rattle.queue.specs.Laws.{suc-sub-one}
 
 marked-here : (marks : List ℕ) (s n : ℕ) → 0 < n → (getD marks (s % 64) 0 ≡ 0 → ⊥) → markedFrom marks s n ≡ true
 unfolding markedFrom
@@ -18,7 +17,9 @@ marked-here marks s (suc n) p h = rw (ne-eqb (getD marks (s % 64) 0) 0 h)
 unmarked-here : (marks : List ℕ) (s n : ℕ) → 0 < n → getD marks (s % 64) 0 ≡ 0 → markedFrom marks s n ≡ markedFrom marks (suc s) (n - 1)
 unfolding markedFrom
 unmarked-here marks s zero p h = absurd (omega arith)
-unmarked-here marks s (suc n) p h = rw (h, suc-sub-one)
+unmarked-here marks s (suc n) p h =
+    let left : suc n - 1 ≡ n = omega arith in
+    rw (h, left)
 
 none-left : (marks : List ℕ) (s n : ℕ) → n ≡ 0 → markedFrom marks s n ≡ false
 unfolding markedFrom

@@ -1,21 +1,22 @@
--- What each function of a queue does to the list that the queue stands for, once over the room, and that it keeps a queue well formed.
+-- Laws: what each change does to the list that a queue stands for, once over the room, and that a queue stays well formed.
 use Prim.Native.Nat.{ℕ, zero, suc, _+_, _-_, _%_, _<_, _≤_}
+use native.Mathlib.Nat.{add-zero}
 use native.Mathlib.Numerals.{add-one}
 use native.Mathlib.Omega.{arith}
-use mathlib.Core.Path.{_≡_, refl, ap, subst}
+use mathlib.Core.Path.{_≡_, refl, ap}
 use mathlib.Core.Bool.{Bool, true, false, not}
 use mathlib.Core.List.{List, [], _∷_, _++_}
 use lib.ListN.{length, getD, set, drop, replicate, length-set}
 use lib.Seq.{getD-set-same, getD-set-other}
 use lib.Dec.{eqb, ltb}
-use borrow.Author.Tests.{ne-eqb, ltb-true, eqb-true, eqb-false}
+use borrow.Author.Tests.{ne-eqb, ltb-true}
 use Rattle.bits.specs.Choice.{pick, pick-by}
 use Rattle.bits.specs.Bits.{oneIf}
 use Rattle.queue.specs.declared.Character.{Character}
 use Rattle.queue.specs.declared.Queue.{Queue}
-use Rattle.queue.specs.declared.Act.{Act}
-use Rattle.queue.specs.declared.Act.the-variants as act
-use Rattle.queue.specs.Queue.{WellFormed, MarksBelow, none, emptyQueue, behind, addedTo, rest, takenFrom, clearedFrom, oldestOf, markedFrom, anyMarkOf, actedOn, movedBy, lyingAt, placedIn}
+use Rattle.queue.specs.declared.Moved.{Moved}
+use Rattle.queue.specs.Change.{Change, Add, Take, Clear, Stay}
+use Rattle.queue.specs.Queue.{WellFormed, MarksBelow, Fits, none, emptyQueue, oldestOf, markedFrom, anyMarkOf, addsTo, takesFrom, clearsAll, staysAs, movedBy, putInto, afterOf, changed}
 use Rattle.queue.specs.List.{charAt, itemsFrom, items, someMark, listAfter}
 
 -- ---- the length is the count
@@ -29,17 +30,13 @@ unfolding items
 length-items q = length-from (q .bytes) (q .marks) (q .start) (q .count)
 
 -- ---- a queue of none
-items-none : (q : Queue) → q .count ≡ 0 → items q ≡ []
-unfolding items itemsFrom
-items-none q h = rw h
-
 pub items-empty : items emptyQueue ≡ []
 unfolding items itemsFrom emptyQueue
 items-empty = refl
 
-pub items-cleared : (q : Queue) → items (clearedFrom q) ≡ []
-unfolding items itemsFrom clearedFrom
-items-cleared q = refl
+pub items-cleared : (q : Queue) (room : ℕ) → items (changed q Clear room) ≡ []
+unfolding items itemsFrom movedBy clearsAll afterOf
+items-cleared q room = refl
 
 -- ---- an added character is the last, and the others stay
 module _ (bytes marks : List ℕ) (c : Character) (bytes-64 : length bytes ≡ 64) (marks-64 : length marks ≡ 64) where
@@ -59,67 +56,53 @@ module _ (bytes marks : List ℕ) (c : Character) (bytes-64 : length bytes ≡ 6
       rw (getD-set-other bytes at (s % 64) (c .byte) 0 far, getD-set-other marks at (s % 64) (c .mark) 0 far)
       (ap (λ (cs : List Character). charAt bytes marks s ∷ cs) later)
 
-items-behind : (q : Queue) (c : Character) → WellFormed q → q .count < 64 → items (behind q c) ≡ items q ++ (c ∷ [])
-unfolding items behind
-items-behind q c ok p =
-    rw add-one
-    (from-set (q .bytes) (q .marks) c (ok .bytes-64) (ok .marks-64) (q .start) (q .count) ((q .start + q .count) % 64) refl p)
+  from-put : (s n : ℕ) (kept : Bool) → (kept ≡ true → n < 64)
+      → itemsFrom (putInto kept bytes ((s + n) % 64) (c .byte)) (putInto kept marks ((s + n) % 64) (c .mark)) s (n + oneIf kept)
+      ≡ pick kept (itemsFrom bytes marks s n ++ (c ∷ [])) (itemsFrom bytes marks s n)
+  unfolding oneIf
+  from-put s n true p = rw add-one (from-set s n ((s + n) % 64) refl (p refl))
+  from-put s n false p = rw add-zero
 
 pub items-added : (q : Queue) (c : Character) (room : ℕ) → WellFormed q → room ≤ 64
-    → items (addedTo q c room .queue) ≡ pick (ltb (length (items q)) room) (items q ++ (c ∷ [])) (items q)
-unfolding addedTo
-items-added q c room ok r = rw length-items (go (ltb (q .count) room) refl)
-  where
-    go : (fewer : Bool) → ltb (q .count) room ≡ fewer → items (pick fewer (behind q c) q) ≡ pick fewer (items q ++ (c ∷ [])) (items q)
-    go true h = let p : q .count < room = ltb-true (q .count) room h in items-behind q c ok (omega arith)
-    go false h = refl
+    → items (changed q (Add c) room) ≡ pick (ltb (length (items q)) room) (items q ++ (c ∷ [])) (items q)
+unfolding items movedBy addsTo afterOf
+items-added q c room ok r =
+    rw length-items
+    (from-put (q .bytes) (q .marks) c (ok .bytes-64) (ok .marks-64) (q .start) (q .count) (ltb (q .count) room) (λ h. omega (arith, ltb-true (q .count) room h)))
 
-pub added-kept : (q : Queue) (c : Character) (room : ℕ) → addedTo q c room .kept ≡ ltb (length (items q)) room
-unfolding addedTo
+pub added-kept : (q : Queue) (c : Character) (room : ℕ) → movedBy q (Add c) room .kept ≡ ltb (length (items q)) room
+unfolding movedBy addsTo
 added-kept q c room = rw length-items
 
 -- ---- a taken character was the first, and the oldest is the head
-pub suc-sub-one : (n : ℕ) → suc n - 1 ≡ n
-suc-sub-one n = omega arith
-
 from-round : (bytes marks : List ℕ) (s t n : ℕ) → s % 64 ≡ t % 64 → itemsFrom bytes marks s n ≡ itemsFrom bytes marks t n
 unfolding itemsFrom
 from-round bytes marks s t zero h = refl
 from-round bytes marks s t (suc n) h = rw (h, from-round bytes marks (suc s) (suc t) n (omega arith))
 
-from-first : (bytes marks : List ℕ) (s n : ℕ) → s < 64 → 0 < n
-    → itemsFrom bytes marks s n ≡ record { byte = getD bytes s 0; mark = getD marks s 0 } ∷ itemsFrom bytes marks ((s + 1) % 64) (n - 1)
+from-taken : (bytes marks : List ℕ) (s n : ℕ)
+    → itemsFrom bytes marks ((s + oneIf (not (eqb n 0))) % 64) (n - oneIf (not (eqb n 0))) ≡ drop 1 (itemsFrom bytes marks s n)
+unfolding itemsFrom oneIf
+from-taken bytes marks s zero = refl
+from-taken bytes marks s (suc n) =
+    let left : suc n - 1 ≡ n = omega arith in
+    rw (ne-eqb (suc n) 0 (omega arith), left) (from-round bytes marks ((s + 1) % 64) (suc s) n (omega arith))
+
+pub items-taken : (q : Queue) (room : ℕ) → items (changed q Take room) ≡ drop 1 (items q)
+unfolding items movedBy takesFrom afterOf
+items-taken q room = from-taken (q .bytes) (q .marks) (q .start) (q .count)
+
+from-head : (bytes marks : List ℕ) (s n : ℕ) → s < 64
+    → pick (eqb n 0) none (record { byte = getD bytes s 0; mark = getD marks s 0 }) ≡ getD (itemsFrom bytes marks s n) 0 none
 unfolding itemsFrom
-from-first bytes marks s zero h p = absurd (omega arith)
-from-first bytes marks s (suc n) h p =
+from-head bytes marks s zero h = refl
+from-head bytes marks s (suc n) h =
     let here : s % 64 ≡ s = omega arith in
-    rw (here, suc-sub-one, from-round bytes marks ((s + 1) % 64) (suc s) n (omega arith))
-
-items-some : (q : Queue) → WellFormed q → (q .count ≡ 0 → ⊥) → items q ≡ oldestOf q ∷ items (takenFrom q)
-unfolding items takenFrom oldestOf rest
-items-some q ok some = rw (ne-eqb (q .count) 0 some) (from-first (q .bytes) (q .marks) (q .start) (q .count) (ok .start-in) (omega arith))
-
-taken-none : (q : Queue) → q .count ≡ 0 → takenFrom q ≡ q
-unfolding takenFrom
-taken-none q h = rw h
-
-oldest-none : (q : Queue) → q .count ≡ 0 → oldestOf q ≡ none
-unfolding oldestOf
-oldest-none q h = rw h
-
-pub items-taken : (q : Queue) → WellFormed q → items (takenFrom q) ≡ drop 1 (items q)
-items-taken q ok = go (eqb (q .count) 0) refl
-  where
-    go : (empty : Bool) → eqb (q .count) 0 ≡ empty → items (takenFrom q) ≡ drop 1 (items q)
-    go true h = let e : q .count ≡ 0 = eqb-true (q .count) 0 h in rw (taken-none q e, items-none q e)
-    go false h = rw (items-some q ok (eqb-false (q .count) 0 h))
+    rw (ne-eqb (suc n) 0 (omega arith), here)
 
 pub oldest-head : (q : Queue) → WellFormed q → oldestOf q ≡ getD (items q) 0 none
-oldest-head q ok = go (eqb (q .count) 0) refl
-  where
-    go : (empty : Bool) → eqb (q .count) 0 ≡ empty → oldestOf q ≡ getD (items q) 0 none
-    go true h = let e : q .count ≡ 0 = eqb-true (q .count) 0 h in rw (oldest-none q e, items-none q e)
-    go false h = rw (items-some q ok (eqb-false (q .count) 0 h))
+unfolding oldestOf items
+oldest-head q ok = from-head (q .bytes) (q .marks) (q .start) (q .count) (ok .start-in)
 
 -- ---- any mark is a mark of some character of the list
 any-from : (bytes marks : List ℕ) (s n : ℕ) → markedFrom marks s n ≡ someMark (itemsFrom bytes marks s n)
@@ -131,38 +114,42 @@ pub any-mark-items : (q : Queue) → anyMarkOf q ≡ someMark (items q)
 unfolding anyMarkOf items
 any-mark-items q = any-from (q .bytes) (q .marks) (q .start) (q .count)
 
+-- ---- what happens to a queue happens to the list
+pub stays-same : (q : Queue) (room : ℕ) → changed q Stay room ≡ q
+unfolding movedBy staysAs afterOf
+stays-same q room = refl
+
+pub items-changed : (q : Queue) (a : Change) (room : ℕ) → WellFormed q → room ≤ 64 → items (changed q a room) ≡ listAfter (items q) a room
+unfolding listAfter
+items-changed q (Add c) room ok r = items-added q c room ok r
+items-changed q Take room ok r = items-taken q room
+items-changed q Clear room ok r = items-cleared q room
+items-changed q Stay room ok r = ap items (stays-same q room)
+
 -- ---- a queue stays well formed
 pub well-formed-empty : WellFormed emptyQueue
 unfolding emptyQueue
 well-formed-empty = record { start-in = omega arith; count-in = omega arith; bytes-64 = refl; marks-64 = refl }
 
-well-formed-behind : (q : Queue) (c : Character) → WellFormed q → q .count < 64 → WellFormed (behind q c)
-unfolding behind
-well-formed-behind q c ok p =
-    record {
-      start-in = ok .start-in;
-      count-in = omega arith;
-      bytes-64 = simp length-set (ok .bytes-64);
-      marks-64 = simp length-set (ok .marks-64);
-    }
+length-put : (puts : Bool) (places : List ℕ) (place x : ℕ) → length (putInto puts places place x) ≡ length places
+length-put true places place x = simp length-set
+length-put false places place x = refl
 
-pub well-formed-added : (q : Queue) (c : Character) (room : ℕ) → WellFormed q → room ≤ 64 → WellFormed (addedTo q c room .queue)
-unfolding addedTo
-well-formed-added q c room ok r =
-    pick-by WellFormed (ltb (q .count) room)
-    (λ h. let p : q .count < room = ltb-true (q .count) room h in well-formed-behind q c ok (omega arith))
-    (λ h. ok)
+room-for-one : (count room : ℕ) → count ≤ 64 → room ≤ 64 → count + oneIf (ltb count room) ≤ 64
+unfolding oneIf
+room-for-one count room h r = pick-by (λ (one : ℕ). count + one ≤ 64) (ltb count room) (λ fewer. omega (arith, ltb-true count room fewer)) (λ _. omega arith)
 
-pub well-formed-taken : (q : Queue) → WellFormed q → WellFormed (takenFrom q)
-unfolding takenFrom rest
-well-formed-taken q ok =
-    pick-by WellFormed (eqb (q .count) 0) (λ h. ok)
-    (λ h. record { start-in = omega arith; count-in = omega arith; bytes-64 = ok .bytes-64; marks-64 = ok .marks-64 })
+well-formed-after : (q : Queue) (m : Moved) → WellFormed q → m .start < 64 → m .count ≤ 64 → WellFormed (afterOf q m)
+unfolding afterOf
+well-formed-after q m ok s n =
+    record { start-in = s; count-in = n; bytes-64 = simp length-put (ok .bytes-64); marks-64 = simp length-put (ok .marks-64) }
 
-pub well-formed-cleared : (q : Queue) → WellFormed q → WellFormed (clearedFrom q)
-unfolding clearedFrom
-well-formed-cleared q ok =
-    record { start-in = ok .start-in; count-in = omega arith; bytes-64 = ok .bytes-64; marks-64 = ok .marks-64 }
+pub well-formed-changed : (q : Queue) (a : Change) (room : ℕ) → WellFormed q → room ≤ 64 → WellFormed (changed q a room)
+unfolding movedBy addsTo takesFrom clearsAll staysAs
+well-formed-changed q (Add c) room ok r = well-formed-after q (addsTo q c room) ok (ok .start-in) (room-for-one (q .count) room (ok .count-in) r)
+well-formed-changed q Take room ok r = well-formed-after q (takesFrom q) ok (omega arith) (omega arith)
+well-formed-changed q Clear room ok r = well-formed-after q (clearsAll q) ok (ok .start-in) (omega arith)
+well-formed-changed q Stay room ok r = well-formed-after q (staysAs q) ok (ok .start-in) (ok .count-in)
 
 -- ---- marks stay below a bound that those of new characters are below
 zeros : (n place : ℕ) → _≡_ {A = ℕ} (getD (replicate n 0) place 0) 0
@@ -183,134 +170,52 @@ module _ (bound : ℕ) where
   unfolding MarksBelow emptyQueue
   marks-below-empty some place = rw (zeros 64 place) some
 
-  pub marks-below-added : (q : Queue) (c : Character) (room : ℕ) → MarksBelow bound q → c .mark < bound → MarksBelow bound (addedTo q c room .queue)
-  unfolding MarksBelow addedTo behind
-  marks-below-added q c room h m =
-      pick-by (MarksBelow bound) (ltb (q .count) room) (λ _. set-below bound (q .marks) ((q .start + q .count) % 64) (c .mark) m h) (λ _. h)
+  -- the mark of a character that is offered
+  abbrev pub MarkBelow : Change → Type 0
+  MarkBelow (Add c) = c .mark < bound
+  MarkBelow Take = Unit {0}
+  MarkBelow Clear = Unit {0}
+  MarkBelow Stay = Unit {0}
 
-  pub marks-below-taken : (q : Queue) → MarksBelow bound q → MarksBelow bound (takenFrom q)
-  unfolding MarksBelow takenFrom rest
-  marks-below-taken q h = pick-by (MarksBelow bound) (eqb (q .count) 0) (λ _. h) (λ _. h)
-
-  pub marks-below-cleared : (q : Queue) → MarksBelow bound q → MarksBelow bound (clearedFrom q)
-  unfolding MarksBelow clearedFrom
-  marks-below-cleared q h = h
-
-  -- the mark of a character that an act adds
-  abbrev pub MarkBelow : Act → Type 0
-  MarkBelow (act.Add c) = c .mark < bound
-  MarkBelow act.Take = Unit {0}
-  MarkBelow act.Clear = Unit {0}
-  MarkBelow act.Nothing = Unit {0}
-
-  pub marks-below-acted : (q : Queue) (a : Act) (room : ℕ) → MarksBelow bound q → MarkBelow a → MarksBelow bound (actedOn q a room .queue)
-  unfolding actedOn
-  marks-below-acted q (act.Add c) room h m = marks-below-added q c room h m
-  marks-below-acted q act.Take room h m = marks-below-taken q h
-  marks-below-acted q act.Clear room h m = marks-below-cleared q h
-  marks-below-acted q act.Nothing room h m = h
+  pub marks-below-changed : (q : Queue) (a : Change) (room : ℕ) → MarksBelow bound q → MarkBelow a → MarksBelow bound (changed q a room)
+  unfolding MarksBelow movedBy addsTo takesFrom clearsAll staysAs afterOf
+  marks-below-changed q (Add c) room h m =
+      pick-by (λ (marks : List ℕ). (place : ℕ) → getD marks place 0 < bound) (ltb (q .count) room)
+      (λ _. set-below bound (q .marks) ((q .start + q .count) % 64) (c .mark) m h) (λ _. h)
+  marks-below-changed q Take room h m = h
+  marks-below-changed q Clear room h m = h
+  marks-below-changed q Stay room h m = h
 
   pub oldest-mark-below : (q : Queue) → 0 < bound → MarksBelow bound q → oldestOf q .mark < bound
   unfolding MarksBelow oldestOf
   oldest-mark-below q some h = pick-by (λ (c : Character). c .mark < bound) (eqb (q .count) 0) (λ _. some) (λ _. h (q .start))
 
--- ---- an act does to a queue what it does to the list
-pub items-acted : (q : Queue) (a : Act) (room : ℕ) → WellFormed q → room ≤ 64 → items (actedOn q a room .queue) ≡ listAfter (items q) a room
-unfolding actedOn listAfter
-items-acted q (act.Add c) room ok r = items-added q c room ok r
-items-acted q act.Take room ok r = items-taken q ok
-items-acted q act.Clear room ok r = items-cleared q
-items-acted q act.Nothing room ok r = refl
+-- ---- what becomes of a queue
+-- the place that is written is one of the 64
+pub fits-moved : (q : Queue) (a : Change) (room : ℕ) → Fits (movedBy q a room)
+unfolding movedBy addsTo takesFrom clearsAll staysAs
+fits-moved q (Add c) room = omega arith
+fits-moved q Take room = omega arith
+fits-moved q Clear room = omega arith
+fits-moved q Stay room = omega arith
 
-pub well-formed-acted : (q : Queue) (a : Act) (room : ℕ) → WellFormed q → room ≤ 64 → WellFormed (actedOn q a room .queue)
-unfolding actedOn
-well-formed-acted q (act.Add c) room ok r = well-formed-added q c room ok r
-well-formed-acted q act.Take room ok r = well-formed-taken q ok
-well-formed-acted q act.Clear room ok r = well-formed-cleared q ok
-well-formed-acted q act.Nothing room ok r = ok
-
--- ---- an act in parts: where the characters lie, and then the place that it writes
-pub acted-kept : (q : Queue) (a : Act) (room : ℕ) → actedOn q a room .kept ≡ movedBy q a room .kept
-unfolding actedOn movedBy addedTo
-acted-kept q (act.Add c) room = refl
-acted-kept q act.Take room = refl
-acted-kept q act.Clear room = refl
-acted-kept q act.Nothing room = refl
-
-module _ (q : Queue) (room : ℕ) (ok : WellFormed q) where
-  add-in-parts : (c : Character)
-      → addedTo q c room .queue
-      ≡ pick (movedBy q (act.Add c) room .puts)
-      (placedIn (lyingAt q (movedBy q (act.Add c) room .start) (movedBy q (act.Add c) room .count)) (movedBy q (act.Add c) room .place) c)
-      (lyingAt q (movedBy q (act.Add c) room .start) (movedBy q (act.Add c) room .count))
-  unfolding addedTo movedBy placedIn behind oneIf
-  add-in-parts c = go (ltb (q .count) room)
-    where
-      go : (fewer : Bool)
-          → pick fewer (behind q c) q
-          ≡ pick fewer (placedIn (lyingAt q (q .start) (q .count + oneIf fewer)) ((q .start + q .count) % 64) c) (lyingAt q (q .start) (q .count + oneIf fewer))
-      go true = refl
-      go false =
-          let same : q .count + 0 ≡ q .count = omega arith in
-          rw same
-
-  pub take-in-parts : takenFrom q ≡ lyingAt q (movedBy q act.Take room .start) (movedBy q act.Take room .count)
-  unfolding takenFrom movedBy rest oneIf
-  take-in-parts = go (eqb (q .count) 0)
-    where
-      go : (empty : Bool) → pick empty q (rest q) ≡ lyingAt q ((q .start + oneIf (not empty)) % 64) (q .count - oneIf (not empty))
-      go true =
-          let start : (q .start + 0) % 64 ≡ q .start = omega (arith, ok .start-in) in
-          let count : q .count - 0 ≡ q .count = omega arith in
-          rw (start, count)
-      go false = refl
-
-  pub acted-in-parts : (a : Act)
-      → actedOn q a room .queue
-      ≡ pick (movedBy q a room .puts)
-      (placedIn (lyingAt q (movedBy q a room .start) (movedBy q a room .count)) (movedBy q a room .place) (movedBy q a room .character))
-      (lyingAt q (movedBy q a room .start) (movedBy q a room .count))
-  unfolding actedOn movedBy clearedFrom
-  acted-in-parts (act.Add c) = add-in-parts c
-  acted-in-parts act.Take = take-in-parts
-  acted-in-parts act.Clear = refl
-  acted-in-parts act.Nothing = refl
-
--- a place that is written leaves the characters lying where they lie
-placed-lies : (puts : Bool) (q : Queue) (place : ℕ) (c : Character) → WellFormed (pick puts (placedIn q place c) q) → (q .start < 64) × (q .count ≤ 64)
-unfolding placedIn
-placed-lies true q place c ok = (ok .start-in, ok .count-in)
-placed-lies false q place c ok = (ok .start-in, ok .count-in)
-
--- where the characters lie after an act is within the places
-pub lying-in : (q : Queue) (a : Act) (room : ℕ) → WellFormed q → room ≤ 64 → WellFormed (lyingAt q (movedBy q a room .start) (movedBy q a room .count))
-lying-in q a room ok r = record { start-in = lies .0; count-in = lies .1; bytes-64 = ok .bytes-64; marks-64 = ok .marks-64 }
-  where
-    lies : (movedBy q a room .start < 64) × (movedBy q a room .count ≤ 64)
-    lies =
-        placed-lies (movedBy q a room .puts) (lyingAt q (movedBy q a room .start) (movedBy q a room .count)) (movedBy q a room .place)
-        (movedBy q a room .character)
-        (subst WellFormed (acted-in-parts q room ok a) (well-formed-acted q a room ok r))
-
--- the place that an act writes is one of the 64
-pub place-in : (q : Queue) (a : Act) (room : ℕ) → movedBy q a room .place < 64
+-- a change that comes about on a condition
+pub moved-if : (q : Queue) (a : Change) (room : ℕ) (goes : Bool) → movedBy q (pick goes a Stay) room ≡ pick goes (movedBy q a room) (staysAs q)
 unfolding movedBy
-place-in q (act.Add c) room = omega arith
-place-in q act.Take room = omega arith
-place-in q act.Clear room = omega arith
-place-in q act.Nothing room = omega arith
+moved-if q a room true = refl
+moved-if q a room false = refl
 
--- ---- places are used again: however many characters come and go, the list is what the same acts make of a list
-abbrev pub allActedOn : ℕ → List Act → Queue → Queue
-allActedOn room [] q = q
-allActedOn room (a ∷ acts) q = allActedOn room acts (actedOn q a room .queue)
+-- ---- places are used again: however many characters come and go, the list is what the same changes make of a list
+abbrev pub allChanged : ℕ → List Change → Queue → Queue
+allChanged room [] q = q
+allChanged room (a ∷ changes) q = allChanged room changes (changed q a room)
 
-abbrev pub listAfterAll : ℕ → List Act → List Character → List Character
+abbrev pub listAfterAll : ℕ → List Change → List Character → List Character
 listAfterAll room [] cs = cs
-listAfterAll room (a ∷ acts) cs = listAfterAll room acts (listAfter cs a room)
+listAfterAll room (a ∷ changes) cs = listAfterAll room changes (listAfter cs a room)
 
-pub places-used-again : (room : ℕ) (acts : List Act) (q : Queue) → room ≤ 64 → WellFormed q
-    → items (allActedOn room acts q) ≡ listAfterAll room acts (items q)
+pub places-used-again : (room : ℕ) (changes : List Change) (q : Queue) → room ≤ 64 → WellFormed q
+    → items (allChanged room changes q) ≡ listAfterAll room changes (items q)
 places-used-again room [] q r ok = refl
-places-used-again room (a ∷ acts) q r ok =
-    rw (← items-acted q a room ok r) (places-used-again room acts (actedOn q a room .queue) r (well-formed-acted q a room ok r))
+places-used-again room (a ∷ changes) q r ok =
+    rw (← items-changed q a room ok r) (places-used-again room changes (changed q a room) r (well-formed-changed q a room ok r))

@@ -1,4 +1,5 @@
--- What the contracts of `queue` cite, the list that a queue stands for, and the laws that tie the two.
+-- Definitions that the contracts of `queue` cite and a reader has to believe, and the laws proved of them, which may be used.
+pub mod Change
 pub mod Queue
 pub mod List
 pub mod Laws

@@ -1,4 +1,4 @@
--- The list of characters that a queue stands for, oldest first. Whoever uses a queue knows it by this list alone.
+-- Definitions: the list of characters that a queue stands for, oldest first. Whoever uses a queue knows it by this list alone.
 use Prim.Native.Nat.{ℕ, zero, suc, _%_}
 use mathlib.Core.Bool.{Bool, false, not, _||_}
 use mathlib.Core.List.{List, [], _∷_, _++_}
@@ -7,8 +7,7 @@ use lib.Dec.{eqb, ltb}
 use Rattle.bits.specs.Choice.{pick}
 use Rattle.queue.specs.declared.Character.{Character}
 use Rattle.queue.specs.declared.Queue.{Queue}
-use Rattle.queue.specs.declared.Act.{Act}
-use Rattle.queue.specs.declared.Act.the-variants as act
+use Rattle.queue.specs.Change.{Change, Add, Take, Clear, Stay}
 
 -- the character at the place s, counted round
 abbrev pub charAt : List ℕ → List ℕ → ℕ → Character
@@ -28,9 +27,9 @@ unfoldable pub someMark : List Character → Bool
 someMark [] = false
 someMark (c ∷ cs) = not (eqb (c .mark) 0) || someMark cs
 
--- a list of characters after an act: "kept .. if fewer than room are queued, else lost"
-unfoldable pub listAfter : List Character → Act → ℕ → List Character
-listAfter cs (act.Add c) room = pick (ltb (length cs) room) (cs ++ (c ∷ [])) cs
-listAfter cs act.Take room = drop 1 cs
-listAfter cs act.Clear room = []
-listAfter cs act.Nothing room = cs
+-- a list of characters after what happens to it: "kept .. if fewer than room are queued, else lost"
+unfoldable pub listAfter : List Character → Change → ℕ → List Character
+listAfter cs (Add c) room = pick (ltb (length cs) room) (cs ++ (c ∷ [])) cs
+listAfter cs Take room = drop 1 cs
+listAfter cs Clear room = []
+listAfter cs Stay room = cs

@@ -1,4 +1,4 @@
--- "Queued characters and their marks sit together in one record, 64 places": the record, place by place.
+-- Definitions, place by place: "Queued characters and their marks sit together in one record, 64 places".
 use Prim.Native.Nat.{ℕ, zero, suc, _+_, _-_, _%_, _<_, _≤_}
 use mathlib.Core.Path.{_≡_}
 use mathlib.Core.Bool.{Bool, true, false, not, _||_}
@@ -9,10 +9,8 @@ use Rattle.bits.specs.Choice.{pick}
 use Rattle.bits.specs.Bits.{oneIf}
 use Rattle.queue.specs.declared.Character.{Character}
 use Rattle.queue.specs.declared.Queue.{Queue}
-use Rattle.queue.specs.declared.Added.{Added}
 use Rattle.queue.specs.declared.Moved.{Moved}
-use Rattle.queue.specs.declared.Act.{Act}
-use Rattle.queue.specs.declared.Act.the-variants as act
+use Rattle.queue.specs.Change.{Change, Add, Take, Clear, Stay}
 
 -- what may be asked of a queue: its numbers are within their bounds, and nothing more
 pub record WellFormed (q : Queue) : Type 0 where
@@ -25,36 +23,16 @@ pub record WellFormed (q : Queue) : Type 0 where
 unfoldable pub MarksBelow : ℕ → Queue → Type 0
 MarksBelow bound q = (place : ℕ) → getD (q .marks) place 0 < bound
 
+-- a place that is written is one of the 64
+abbrev pub Fits : Moved → Type 0
+Fits m = m .place < 64
+
 -- the character that stands for none
 abbrev pub none : Character
 none = record { byte = 0; mark = 0 }
 
 unfoldable pub emptyQueue : Queue
 emptyQueue = record { bytes = replicate 64 0; marks = replicate 64 0; start = 0; count = 0 }
-
--- one more character, in the place after the last
-unfoldable pub behind : Queue → Character → Queue
-behind q c =
-    record {
-      bytes = set (q .bytes) ((q .start + q .count) % 64) (c .byte);
-      marks = set (q .marks) ((q .start + q .count) % 64) (c .mark);
-      start = q .start;
-      count = q .count + 1;
-    }
-
--- "kept with its mark if fewer than room are queued, else lost"; "the newcomer is the one lost (house)"
-unfoldable pub addedTo : Queue → Character → ℕ → Added
-addedTo q c room = record { queue = pick (ltb (q .count) room) (behind q c) q; kept = ltb (q .count) room }
-
--- the places from the second on
-unfoldable pub rest : Queue → Queue
-rest q = record { bytes = q .bytes; marks = q .marks; start = (q .start + 1) % 64; count = q .count - 1 }
-
-unfoldable pub takenFrom : Queue → Queue
-takenFrom q = pick (eqb (q .count) 0) q (rest q)
-
-unfoldable pub clearedFrom : Queue → Queue
-clearedFrom q = record { bytes = q .bytes; marks = q .marks; start = q .start; count = 0 }
 
 -- "oldest character ..; 0 if empty"
 unfoldable pub oldestOf : Queue → Character
@@ -71,20 +49,15 @@ markedFrom marks s (suc n) = not (eqb (getD marks (s % 64) 0) 0) || markedFrom m
 unfoldable pub anyMarkOf : Queue → Bool
 anyMarkOf q = markedFrom (q .marks) (q .start) (q .count)
 
--- a queue after an act, and whether a character that it adds was kept; an act that adds none loses none
-unfoldable pub actedOn : Queue → Act → ℕ → Added
-actedOn q (act.Add c) room = addedTo q c room
-actedOn q act.Take room = record { queue = takenFrom q; kept = true }
-actedOn q act.Clear room = record { queue = clearedFrom q; kept = true }
-actedOn q act.Nothing room = record { queue = q; kept = true }
-
--- an act that adds no character loses none and writes no place
+-- ---- what becomes of a queue
+-- where none is offered none is lost, and no place is written
 abbrev pub noneAdded : ℕ → ℕ → Moved
 noneAdded start count = record { start = start; count = count; kept = true; puts = false; place = 0; character = none }
 
--- the same but for the places: where the characters lie after an act, and which place the act writes, if any
-unfoldable pub movedBy : Queue → Act → ℕ → Moved
-movedBy q (act.Add c) room =
+-- "kept with its mark if fewer than room are queued, else lost"; "the newcomer is the one lost (house)". It goes to the
+-- place after the last.
+unfoldable pub addsTo : Queue → Character → ℕ → Moved
+addsTo q c room =
     record {
       start = q .start;
       count = q .count + oneIf (ltb (q .count) room);
@@ -93,16 +66,39 @@ movedBy q (act.Add c) room =
       place = (q .start + q .count) % 64;
       character = c;
     }
-movedBy q act.Take room =
+
+-- the oldest removed; of an empty queue none
+unfoldable pub takesFrom : Queue → Moved
+takesFrom q =
     noneAdded ((q .start + oneIf (not (eqb (q .count) 0))) % 64) (q .count - oneIf (not (eqb (q .count) 0)))
-movedBy q act.Clear room = noneAdded (q .start) 0
-movedBy q act.Nothing room = noneAdded (q .start) (q .count)
 
--- the same places, with the characters lying elsewhere among them
-abbrev pub lyingAt : Queue → ℕ → ℕ → Queue
-lyingAt q start count = record { bytes = q .bytes; marks = q .marks; start = start; count = count }
+unfoldable pub clearsAll : Queue → Moved
+clearsAll q = noneAdded (q .start) 0
 
--- a character in a place
-unfoldable pub placedIn : Queue → ℕ → Character → Queue
-placedIn q place c =
-    record { bytes = set (q .bytes) place (c .byte); marks = set (q .marks) place (c .mark); start = q .start; count = q .count }
+unfoldable pub staysAs : Queue → Moved
+staysAs q = noneAdded (q .start) (q .count)
+
+-- by what happens to it, over a room for one more character
+unfoldable pub movedBy : Queue → Change → ℕ → Moved
+movedBy q (Add c) room = addsTo q c room
+movedBy q Take room = takesFrom q
+movedBy q Clear room = clearsAll q
+movedBy q Stay room = staysAs q
+
+-- places with one of them written, if one is
+abbrev pub putInto : Bool → List ℕ → ℕ → ℕ → List ℕ
+putInto puts places place x = pick puts (set places place x) places
+
+-- the queue after what becomes of it
+unfoldable pub afterOf : Queue → Moved → Queue
+afterOf q m =
+    record {
+      bytes = putInto (m .puts) (q .bytes) (m .place) (m .character .byte);
+      marks = putInto (m .puts) (q .marks) (m .place) (m .character .mark);
+      start = m .start;
+      count = m .count;
+    }
+
+-- the queue after what happens to it
+abbrev pub changed : Queue → Change → ℕ → Queue
+changed q a room = afterOf q (movedBy q a room)

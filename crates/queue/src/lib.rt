@@ -3,8 +3,9 @@
 use bits::chosen;
 use bits::one_if;
 ghost use mathlib.Core.Path.{_≡_};
-ghost use Prim.Native.Nat.{_<_, _≤_};
-ghost use Rattle.queue.specs.Queue.{WellFormed, emptyQueue, addedTo, takenFrom, clearedFrom, oldestOf, anyMarkOf, actedOn, noneAdded, movedBy, placedIn};
+ghost use Prim.Native.Nat.{_≤_};
+ghost use Rattle.bits.specs.Choice.{pick};
+ghost use Rattle.queue.specs.Queue.{WellFormed, Fits, emptyQueue, noneAdded, addsTo, takesFrom, clearsAll, staysAs, oldestOf, anyMarkOf, putInto, afterOf};
 
 pub struct Character {
     pub byte: u8,
@@ -19,14 +20,8 @@ pub struct Queue {
     pub count: u8,
 }
 
-// A queue after an act, and whether a character that the act added was kept; one that adds none loses none.
-pub struct Added {
-    pub queue: Queue,
-    pub kept: bool,
-}
-
-// What an act makes of a queue but for its places: where its characters lie, whether one that the act added was kept, and
-// the character that goes to a place, if one does.
+// What becomes of a queue in an event: where its characters lie, whether one that was offered was kept, and the character
+// that goes to a place, if one does. Where none is offered none is lost.
 pub struct Moved {
     pub start: u8,
     pub count: u8,
@@ -36,15 +31,7 @@ pub struct Moved {
     pub character: Character,
 }
 
-// What an event does to a queue.
-pub enum Act {
-    Add(Character),
-    Take,
-    Clear,
-    Nothing,
-}
-
-// An act that adds no character leaves the others lying somewhere, and writes no place.
+// No character goes to a place: the others lie somewhere.
 fn none_added(start: u8, count: u8) -> Moved
     ensures { λ r. ⌜ r ≡ noneAdded start count ⌝ }
 {
@@ -70,52 +57,48 @@ impl Queue {
         }
     }
 
-    // With one more character behind the others, if fewer than `room` are queued; else as it was.
-    // A character that is not kept leaves its place as it was: one way through the code, one copy of the places.
-    pub fn add(self, character: Character, room: u8) -> Added
+    pub fn stays(self) -> Moved
+        ensures { λ r. ⌜ r ≡ staysAs self ⌝ }
+    {
+        none_added(self.start, self.count)
+    }
+
+    // A character offered, if it comes to that: it goes behind the others if fewer than `room` are queued.
+    pub fn adds(self, comes: bool, character: Character, room: u8) -> Moved
         requires { ⌜ WellFormed self × (room ≤ 64) ⌝ }
-        ensures { λ r. ⌜ r ≡ addedTo self character room ⌝ }
+        ensures { λ r. ⌜ r ≡ pick comes (addsTo self character room) (staysAs self) ⌝ }
     {
         let start = self.start;
         let count = self.count;
-        let kept = count < room;
-        let at = ((start + count) % 64) as usize;
-        let mut bytes = self.bytes;
-        let mut marks = self.marks;
-        bytes[at] = chosen(kept, character.byte, bytes[at]);
-        marks[at] = chosen(kept, character.mark, marks[at]);
-        let queue = Queue {
-            bytes: bytes,
-            marks: marks,
-            start: start,
-            count: count + one_if(kept),
-        };
-        Added {
-            queue: queue,
-            kept: kept,
+        if comes {
+            let fits = count < room;
+            return Moved {
+                start: start,
+                count: count + one_if(fits),
+                kept: fits,
+                puts: fits,
+                place: (start + count) % 64,
+                character: character,
+            };
         }
+        none_added(start, count)
     }
 
-    // Without its oldest character; an empty queue as it was.
-    pub fn take(self) -> Queue
+    // The oldest character removed, if it is to go and there is one.
+    pub fn takes(self, goes: bool) -> Moved
         requires { ⌜ WellFormed self ⌝ }
-        ensures { λ r. ⌜ r ≡ takenFrom self ⌝ }
+        ensures { λ r. ⌜ r ≡ pick goes (takesFrom self) (staysAs self) ⌝ }
     {
         let count = self.count;
-        let gone = one_if(count != 0);
-        let mut next = self;
-        next.start = (self.start + gone) % 64;
-        next.count = count - gone;
-        next
+        let taken = one_if(goes & (count != 0));
+        none_added((self.start + taken) % 64, count - taken)
     }
 
-    pub fn clear(self) -> Queue
-        requires { ⌜ WellFormed self ⌝ }
-        ensures { λ r. ⌜ r ≡ clearedFrom self ⌝ }
+    // All characters removed, if they are to go.
+    pub fn clears(self, goes: bool) -> Moved
+        ensures { λ r. ⌜ r ≡ pick goes (clearsAll self) (staysAs self) ⌝ }
     {
-        let mut next = self;
-        next.count = 0;
-        next
+        none_added(self.start, chosen(goes, 0, self.count))
     }
 
     // The oldest character and its mark, 0 and 0 of an empty queue.
@@ -152,71 +135,52 @@ impl Queue {
         false
     }
 
-    // After an act, over a room for one more character.
-    pub fn act(self, act: Act, room: u8) -> Added
-        requires { ⌜ WellFormed self × (room ≤ 64) ⌝ }
-        ensures { λ r. ⌜ r ≡ actedOn self act room ⌝ }
+    // The queue by value after what becomes of it.
+    pub fn after(self, moved: Moved) -> Queue
+        requires { ⌜ Fits moved ⌝ }
+        ensures { λ r. ⌜ r ≡ afterOf self moved ⌝ }
     {
-        match act {
-            Act::Add(character) => self.add(character, room),
-            Act::Take => Added {
-                queue: self.take(),
-                kept: true,
-            },
-            Act::Clear => Added {
-                queue: self.clear(),
-                kept: true,
-            },
-            Act::Nothing => Added {
-                queue: self,
-                kept: true,
-            },
-        }
-    }
-
-    // What an act comes to, with no place written: a record that is lent is then changed where it lies.
-    pub fn moved(self, act: Act, room: u8) -> Moved
-        requires { ⌜ WellFormed self × (room ≤ 64) ⌝ }
-        ensures { λ r. ⌜ r ≡ movedBy self act room ⌝ }
-    {
-        let start = self.start;
-        let count = self.count;
-        match act {
-            Act::Add(character) => {
-                let fits = count < room;
-                Moved {
-                    start: start,
-                    count: count + one_if(fits),
-                    kept: fits,
-                    puts: fits,
-                    place: (start + count) % 64,
-                    character: character,
-                }
-            }
-            Act::Take => {
-                let taken = one_if(count != 0);
-                none_added((start + taken) % 64, count - taken)
-            }
-            Act::Clear => none_added(start, 0),
-            Act::Nothing => none_added(start, count),
-        }
-    }
-
-    // With a character at a place, whether it is one of the queue's or not.
-    pub fn placed(self, place: u8, character: Character) -> Queue
-        requires { ⌜ WellFormed self × (place < 64) ⌝ }
-        ensures { λ r. ⌜ r ≡ placedIn self place character ⌝ }
-    {
-        let at = place as usize;
+        let puts = moved.puts;
+        let place = moved.place as usize;
         let mut bytes = self.bytes;
         let mut marks = self.marks;
-        bytes[at] = character.byte;
-        marks[at] = character.mark;
+        if puts {
+            bytes[place] = moved.character.byte;
+            marks[place] = moved.character.mark;
+            return Queue {
+                bytes: bytes,
+                marks: marks,
+                start: moved.start,
+                count: moved.count,
+            };
+        }
         Queue {
             bytes: bytes,
             marks: marks,
-            start: self.start,
-            count: self.count,
+            start: moved.start,
+            count: moved.count,
         }
     }
+}
+
+// The places with a character put at one of them, if one is put.
+fn put(bytes: &mut [u8; 64], marks: &mut [u8; 64], moved: Moved)
+    requires { ⌜ Fits moved ⌝ }
+    ensures { λ _. ⌜ (now (bytes .exit) ≡ putInto (moved .puts) (now (bytes .entry)) (moved .place) (moved .character .byte)) × (now (marks .exit) ≡ putInto (moved .puts) (now (marks .entry)) (moved .place) (moved .character .mark)) ⌝ }
+{
+    if moved.puts {
+        let at = moved.place as usize;
+        bytes[at] = moved.character.byte;
+        marks[at] = moved.character.mark;
+    }
+}
+
+// The lent queue after what becomes of it: a byte and a mark are stored where they belong, and no place is copied.
+pub fn settle(lent: &mut Queue, moved: Moved)
+    requires { ⌜ Fits moved ⌝ }
+    ensures { λ _. ⌜ now (lent .exit) ≡ afterOf (now (lent .entry)) moved ⌝ }
+{
+    (*lent).start = moved.start;
+    (*lent).count = moved.count;
+    put(&mut (*lent).bytes, &mut (*lent).marks, moved);
 }

@@ -1,43 +1,67 @@
--- Bounds of what the stored registers come to.
-use Prim.Native.Nat.{ℕ, _<_, _≤_}
+-- Laws: what follows from the definitions: registers told apart, what setting none comes to, and the bound of a room.
+use Prim.Native.Nat.{ℕ, _≤_}
 use native.Mathlib.Omega.{arith}
+use mathlib.Core.Path.{_≡_, refl, sym, ap, _∙_}
+use mathlib.Core.Bool.{true}
+use mathlib.Core.List.{List, [], _∷_}
+use lib.ListN.{getD}
+use borrow.Author.Tests.{eqb-true}
 use Rattle.bits.specs.Choice.{pick-by}
 use Rattle.bits.specs.Bits.{bitAt}
-use Rattle.queue.specs.Laws.{MarkBelow}
+use Rattle.registers.specs.declared.register.Register.{Register}
 use Rattle.registers.specs.declared.register.Register.the-variants as register
-use Rattle.registers.specs.declared.arrival.Gate.{Gate}
-use Rattle.registers.specs.declared.arrival.Gate.the-variants as gate
+use Rattle.registers.specs.declared.settings.Setting.{Setting}
 use Rattle.registers.specs.declared.settings.Settings.{Settings}
-use Rattle.registers.specs.declared.touch.Touch.{Touch}
-use Rattle.registers.specs.declared.touch.Touch.the-variants as touch
-use Rattle.registers.specs.Windows.{same}
-use Rattle.registers.specs.Arrivals.{arrivedByte, gateOf, roomOf}
-use Rattle.registers.specs.Touches.{clears, clearing, offered, receivedBy, receiveAct}
+use Rattle.registers.specs.Windows.{place, same}
+use Rattle.registers.specs.Writes.{noSetting, ifSet, withSetting}
+use Rattle.registers.specs.Arrivals.{roomOf}
+
+-- ---- two registers of one place are one
+abbrev byPlace : List Register
+byPlace =
+    register.RhrThr ∷ register.Ier ∷ register.IirFcr ∷ register.Lcr ∷ register.Mcr ∷ register.Lsr ∷ register.Msr ∷ register.Spr
+    ∷ register.Txlvl ∷ register.Rxlvl ∷ register.IoControl ∷ register.Efcr ∷ register.Tcr ∷ register.Tlr ∷ register.Dll
+    ∷ register.Dlh ∷ register.Efr ∷ register.Xon1 ∷ register.Xon2 ∷ register.Xoff1 ∷ register.Xoff2 ∷ register.Closed ∷ []
+
+found-by-place : (r : Register) → r ≡ getD byPlace (place r) register.Closed
+found-by-place register.RhrThr = refl
+found-by-place register.Ier = refl
+found-by-place register.IirFcr = refl
+found-by-place register.Lcr = refl
+found-by-place register.Mcr = refl
+found-by-place register.Lsr = refl
+found-by-place register.Msr = refl
+found-by-place register.Spr = refl
+found-by-place register.Txlvl = refl
+found-by-place register.Rxlvl = refl
+found-by-place register.IoControl = refl
+found-by-place register.Efcr = refl
+found-by-place register.Tcr = refl
+found-by-place register.Tlr = refl
+found-by-place register.Dll = refl
+found-by-place register.Dlh = refl
+found-by-place register.Efr = refl
+found-by-place register.Xon1 = refl
+found-by-place register.Xon2 = refl
+found-by-place register.Xoff1 = refl
+found-by-place register.Xoff2 = refl
+found-by-place register.Closed = refl
+
+pub same-is : (r q : Register) → same r q ≡ true → r ≡ q
+same-is r q h =
+    found-by-place r
+    ∙ ap (λ (n : ℕ). getD byPlace n register.Closed) (eqb-true (place r) (place q) h)
+    ∙ sym (found-by-place q)
+
+-- ---- a closed register holds nothing
+pub closed-sets-none : (s : Settings) (set : Setting) → set .register ≡ register.Closed → withSetting s set ≡ s
+unfolding withSetting ifSet
+closed-sets-none s set closed = rw closed
+
+pub none-set : (s : Settings) → withSetting s noSetting ≡ s
+unfolding withSetting ifSet noSetting
+none-set s = refl
 
 pub room-in : (s : Settings) → roomOf s ≤ 64
 unfolding roomOf
 room-in s = pick-by (λ (n : ℕ). n ≤ 64) (bitAt (s .fcr) 0) (λ _. omega arith) (λ _. omega arith)
-
--- what a touch may bring: "mark above 7" and "pin value above 15" are refused before
-abbrev pub TouchIn : Touch → Type 0
-TouchIn (touch.Write written byte) = Unit {0}
-TouchIn (touch.Read read) = Unit {0}
-TouchIn (touch.Arrival byte mark) = mark < 8
-TouchIn touch.Slot = Unit {0}
-TouchIn (touch.Pins value) = value < 16
-TouchIn touch.Quiet = Unit {0}
-
-offered-mark : (g : Gate) (byte mark : ℕ) → mark < 8 → MarkBelow 8 (offered g (record { byte = byte; mark = mark }))
-offered-mark gate.Passes byte mark m = m
-offered-mark gate.Off byte mark m = tt
-offered-mark gate.Elsewhere byte mark m = tt
-
-pub receive-act-mark : (s : Settings) (t : Touch) → TouchIn t → MarkBelow 8 (receiveAct s t)
-unfolding receiveAct clearing receivedBy
-receive-act-mark s (touch.Write written byte) h =
-    pick-by (MarkBelow 8) (same written register.Iir) (λ _. pick-by (MarkBelow 8) (clears s byte 1) (λ _. tt) (λ _. tt)) (λ _. tt)
-receive-act-mark s (touch.Read read) h = pick-by (MarkBelow 8) (same read register.Rhr) (λ _. tt) (λ _. tt)
-receive-act-mark s (touch.Arrival byte mark) h = offered-mark (gateOf s byte mark) (arrivedByte s byte mark) mark h
-receive-act-mark s touch.Slot h = tt
-receive-act-mark s (touch.Pins value) h = tt
-receive-act-mark s touch.Quiet h = tt

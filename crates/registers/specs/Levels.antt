@@ -1,4 +1,4 @@
--- "Trigger levels". "Receive levels count characters and transmit levels count spaces".
+-- Definitions: "Trigger levels". "Receive levels count characters and transmit levels count spaces".
 use Prim.Native.Nat.{ℕ, _*_}
 use mathlib.Core.List.{[], _∷_}
 use lib.ListN.{getD}

@@ -3,5 +3,5 @@ pub mod Windows
 pub mod Writes
 pub mod Arrivals
 pub mod Levels
-pub mod Touches
+pub mod Queues
 pub mod Laws

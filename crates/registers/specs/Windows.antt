@@ -1,4 +1,4 @@
--- "Register windows (Tables 9, 10)": which register an address names.
+-- Definitions: "Register windows (Tables 9, 10)": which register an address names.
 use Prim.Native.Nat.{ℕ}
 use mathlib.Core.Bool.{Bool, not, _&&_}
 use lib.Dec.{eqb}
@@ -10,9 +10,9 @@ use Rattle.registers.specs.declared.settings.Settings.{Settings}
 
 -- the registers by number, so that two can be told apart
 abbrev pub place : Register → ℕ
-place register.Rhr = 0
+place register.RhrThr = 0
 place register.Ier = 1
-place register.Iir = 2
+place register.IirFcr = 2
 place register.Lcr = 3
 place register.Mcr = 4
 place register.Lsr = 5
@@ -20,18 +20,18 @@ place register.Msr = 6
 place register.Spr = 7
 place register.Txlvl = 8
 place register.Rxlvl = 9
-place register.IoControl = 14
-place register.Efcr = 15
-place register.Tcr = 16
-place register.Tlr = 17
-place register.Dll = 18
-place register.Dlh = 19
-place register.Efr = 20
-place register.Xon1 = 21
-place register.Xon2 = 22
-place register.Xoff1 = 23
-place register.Xoff2 = 24
-place register.Closed = 25
+place register.IoControl = 10
+place register.Efcr = 11
+place register.Tcr = 12
+place register.Tlr = 13
+place register.Dll = 14
+place register.Dlh = 15
+place register.Efr = 16
+place register.Xon1 = 17
+place register.Xon2 = 18
+place register.Xoff1 = 19
+place register.Xoff2 = 20
+place register.Closed = 21
 
 abbrev pub same : Register → Register → Bool
 same r q = eqb (place r) (place q)
@@ -44,9 +44,9 @@ tcrOpen s = bitAt (s .efr) 4 && bitAt (s .mcr) 2
 -- "Addresses 0A to 0D read 0 and take nothing", as any other that is closed.
 unfoldable pub generalAt : ℕ → Bool → Register
 generalAt address tcr =
-    pick (eqb address 0) register.Rhr
+    pick (eqb address 0) register.RhrThr
     (pick (eqb address 1) register.Ier
-    (pick (eqb address 2) register.Iir
+    (pick (eqb address 2) register.IirFcr
     (pick (eqb address 4) register.Mcr
     (pick (eqb address 5) register.Lsr
     (pick (eqb address 6) (pick tcr register.Tcr register.Msr)

@@ -1,10 +1,11 @@
--- What a write and a reset make of the stored registers.
+-- Definitions: what a write makes of the stored registers.
 use Prim.Native.Nat.{ℕ}
-use mathlib.Core.Bool.{Bool}
+use mathlib.Core.Bool.{Bool, _&&_}
 use Rattle.bits.specs.Choice.{pick}
 use Rattle.bits.specs.Bits.{bitAt, replacedAt}
 use Rattle.registers.specs.declared.register.Register.{Register}
 use Rattle.registers.specs.declared.register.Register.the-variants as register
+use Rattle.registers.specs.declared.settings.Setting.{Setting}
 use Rattle.registers.specs.declared.settings.Settings.{Settings}
 use Rattle.registers.specs.Windows.{same}
 
@@ -34,74 +35,51 @@ efcrWritten byte = replacedAt (replacedAt byte 0 6 2) 0 3 1
 unfoldable pub divisorWritten : Settings → ℕ → ℕ → ℕ
 divisorWritten s old byte = pick (bitAt (s .ier) 4) old byte
 
--- a stored register after a write to some register: the new value if it is the one written, else the old
-abbrev pub ifWritten : Register → Register → ℕ → ℕ → ℕ
-ifWritten written stored new old = pick (same written stored) new old
+-- what a register takes of a byte that is written to it; FCR is written at IIR's address
+unfoldable pub takenBy : Settings → Register → ℕ → ℕ
+takenBy s written byte =
+    pick (same written register.Ier) (ierWritten s byte)
+    (pick (same written register.IirFcr) (fcrWritten s byte)
+    (pick (same written register.Mcr) (mcrWritten s byte)
+    (pick (same written register.Efcr) (efcrWritten byte)
+    (pick (same written register.Dll) (divisorWritten s (s .dll) byte)
+    (pick (same written register.Dlh) (divisorWritten s (s .dlh) byte) byte)))))
 
--- each stored register after a byte is written to a register; FCR is written at IIR's address.
--- "Writes to LSR, MSR, TXLVL and RXLVL do nothing", nor do those to THR, IOControl and a closed address, to what is stored.
-unfoldable pub writtenTo : Settings → Register → ℕ → Settings
-writtenTo s written byte =
+-- an event that sets no register
+unfoldable pub noSetting : Setting
+noSetting = record { register = register.Closed; byte = 0 }
+
+-- what a write sets; a byte for THR goes to the queue
+unfoldable pub settingOf : Settings → Register → ℕ → Setting
+settingOf s written byte =
+    pick (same written register.RhrThr) noSetting (record { register = written; byte = takenBy s written byte })
+
+-- a stored register, where some register is set to a byte
+unfoldable pub ifSet : Setting → Register → ℕ → ℕ
+ifSet set stored old = pick (same (set .register) stored) (set .byte) old
+
+-- each stored register, where one is set. "Writes to LSR, MSR, TXLVL and RXLVL do nothing", nor do those to IOControl and a
+-- closed address, to what is stored.
+unfoldable pub withSetting : Settings → Setting → Settings
+withSetting s set =
     record {
-      lcr = ifWritten written register.Lcr byte (s .lcr);
-      ier = ifWritten written register.Ier (ierWritten s byte) (s .ier);
-      fcr = ifWritten written register.Iir (fcrWritten s byte) (s .fcr);
-      mcr = ifWritten written register.Mcr (mcrWritten s byte) (s .mcr);
-      spr = ifWritten written register.Spr byte (s .spr);
-      efr = ifWritten written register.Efr byte (s .efr);
-      efcr = ifWritten written register.Efcr (efcrWritten byte) (s .efcr);
-      tcr = ifWritten written register.Tcr byte (s .tcr);
-      tlr = ifWritten written register.Tlr byte (s .tlr);
-      dll = ifWritten written register.Dll (divisorWritten s (s .dll) byte) (s .dll);
-      dlh = ifWritten written register.Dlh (divisorWritten s (s .dlh) byte) (s .dlh);
-      xon1 = ifWritten written register.Xon1 byte (s .xon1);
-      xon2 = ifWritten written register.Xon2 byte (s .xon2);
-      xoff1 = ifWritten written register.Xoff1 byte (s .xoff1);
-      xoff2 = ifWritten written register.Xoff2 byte (s .xoff2);
+      lcr = ifSet set register.Lcr (s .lcr);
+      ier = ifSet set register.Ier (s .ier);
+      fcr = ifSet set register.IirFcr (s .fcr);
+      mcr = ifSet set register.Mcr (s .mcr);
+      spr = ifSet set register.Spr (s .spr);
+      efr = ifSet set register.Efr (s .efr);
+      efcr = ifSet set register.Efcr (s .efcr);
+      tcr = ifSet set register.Tcr (s .tcr);
+      tlr = ifSet set register.Tlr (s .tlr);
+      dll = ifSet set register.Dll (s .dll);
+      dlh = ifSet set register.Dlh (s .dlh);
+      xon1 = ifSet set register.Xon1 (s .xon1);
+      xon2 = ifSet set register.Xon2 (s .xon2);
+      xoff1 = ifSet set register.Xoff1 (s .xoff1);
+      xoff2 = ifSet set register.Xoff2 (s .xoff2);
     }
 
--- "Reset (Table 4) ..: LCR 1D; IER, FCR, MCR, EFR, TCR, TLR, EFCR 0"; "DLL, DLH, SPR, XON and XOFF keep theirs."
-unfoldable pub resetFrom : Settings → ℕ → Settings
-resetFrom s lcr =
-    record {
-      lcr = lcr;
-      ier = 0;
-      fcr = 0;
-      mcr = 0;
-      spr = s .spr;
-      efr = 0;
-      efcr = 0;
-      tcr = 0;
-      tlr = 0;
-      dll = s .dll;
-      dlh = s .dlh;
-      xon1 = s .xon1;
-      xon2 = s .xon2;
-      xoff1 = s .xoff1;
-      xoff2 = s .xoff2;
-    }
-
--- every stored byte 0
-abbrev pub blankSettings : Settings
-blankSettings =
-    record {
-      lcr = 0;
-      ier = 0;
-      fcr = 0;
-      mcr = 0;
-      spr = 0;
-      efr = 0;
-      efcr = 0;
-      tcr = 0;
-      tlr = 0;
-      dll = 0;
-      dlh = 0;
-      xon1 = 0;
-      xon2 = 0;
-      xoff1 = 0;
-      xoff2 = 0;
-    }
-
--- "A new device is a reset one with those bytes .. 0."
-abbrev pub newSettings : Settings
-newSettings = resetFrom blankSettings 0x1D
+-- IOControl: "writing bit 3 resets the device"
+unfoldable pub resetsDevice : Register → ℕ → Bool
+resetsDevice written byte = same written register.IoControl && bitAt byte 3

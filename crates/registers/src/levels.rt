@@ -2,7 +2,6 @@
 use crate::settings::Settings;
 use bits::part;
 ghost use mathlib.Core.Path.{_≡_};
-ghost use Prim.Native.Nat.{_<_};
 ghost use lib.Dec.{leb};
 ghost use Rattle.registers.specs.Levels.{fours, receiveLevel, transmitLevel, haltLevel, resumeLevel};
 

@@ -1,11 +1,12 @@
-// The registers that a channel's addresses name in one window or another.
+// The registers that a channel's addresses name in one window or another. Two of them are one register to a read and another
+// to a write.
 ghost use mathlib.Core.Path.{_≡_};
 ghost use Rattle.registers.specs.Windows.{place, same};
 
 pub enum Register {
-    Rhr,
+    RhrThr,
     Ier,
-    Iir,
+    IirFcr,
     Lcr,
     Mcr,
     Lsr,
@@ -32,9 +33,9 @@ impl Register {
         ensures { λ r. ⌜ r ≡ place self ⌝ }
     {
         match self {
-            Register::Rhr => 0,
+            Register::RhrThr => 0,
             Register::Ier => 1,
-            Register::Iir => 2,
+            Register::IirFcr => 2,
             Register::Lcr => 3,
             Register::Mcr => 4,
             Register::Lsr => 5,
@@ -42,18 +43,18 @@ impl Register {
             Register::Spr => 7,
             Register::Txlvl => 8,
             Register::Rxlvl => 9,
-            Register::IoControl => 14,
-            Register::Efcr => 15,
-            Register::Tcr => 16,
-            Register::Tlr => 17,
-            Register::Dll => 18,
-            Register::Dlh => 19,
-            Register::Efr => 20,
-            Register::Xon1 => 21,
-            Register::Xon2 => 22,
-            Register::Xoff1 => 23,
-            Register::Xoff2 => 24,
-            Register::Closed => 25,
+            Register::IoControl => 10,
+            Register::Efcr => 11,
+            Register::Tcr => 12,
+            Register::Tlr => 13,
+            Register::Dll => 14,
+            Register::Dlh => 15,
+            Register::Efr => 16,
+            Register::Xon1 => 17,
+            Register::Xon2 => 18,
+            Register::Xoff1 => 19,
+            Register::Xoff2 => 20,
+            Register::Closed => 21,
         }
     }
 

@@ -1,11 +1,11 @@
-// The stored registers, the window that they open, and what a write or a reset makes of them.
+// The stored registers, the window that they open, and what a write makes of them.
 use crate::register::Register;
 use bits::bit;
 use bits::chosen;
 use bits::replaced;
 ghost use mathlib.Core.Path.{_≡_};
 ghost use Rattle.registers.specs.Windows.{enhancedAt, divisorAt, generalAt, registerAt, tcrOpen};
-ghost use Rattle.registers.specs.Writes.{guardOpen, ierWritten, fcrWritten, mcrWritten, efcrWritten, divisorWritten, writtenTo, resetFrom};
+ghost use Rattle.registers.specs.Writes.{guardOpen, ierWritten, fcrWritten, mcrWritten, efcrWritten, divisorWritten, takenBy, noSetting, settingOf, ifSet, withSetting, resetsDevice};
 
 #[repr(C)]
 pub struct Settings {
@@ -24,6 +24,12 @@ pub struct Settings {
     pub xon2: u8,
     pub xoff1: u8,
     pub xoff2: u8,
+}
+
+// A register and the byte that it is to hold; no event sets more than one. A register that holds nothing is not set.
+pub struct Setting {
+    pub register: Register,
+    pub byte: u8,
 }
 
 // The set that LCR = BF opens.
@@ -56,9 +62,9 @@ fn general_at(address: u8, tcr: bool) -> Register
     ensures { λ r. ⌜ r ≡ generalAt address tcr ⌝ }
 {
     match address {
-        0 => Register::Rhr,
+        0 => Register::RhrThr,
         1 => Register::Ier,
-        2 => Register::Iir,
+        2 => Register::IirFcr,
         4 => Register::Mcr,
         5 => Register::Lsr,
         6 => {
@@ -78,6 +84,25 @@ fn general_at(address: u8, tcr: bool) -> Register
         14 => Register::IoControl,
         15 => Register::Efcr,
         _ => Register::Closed,
+    }
+}
+
+impl Setting {
+    pub fn none() -> Setting
+        ensures { λ r. ⌜ r ≡ noSetting ⌝ }
+    {
+        Setting {
+            register: Register::Closed,
+            byte: 0,
+        }
+    }
+
+    // What a stored register holds, if it is the one set or not.
+    fn held(self, stored: Register, old: u8) -> u8
+        ensures { λ r. ⌜ r ≡ ifSet self stored old ⌝ }
+    {
+        let register = self.register;
+        chosen(register.is(stored), self.byte, old)
     }
 }
 
@@ -143,102 +168,75 @@ impl Settings {
         chosen(bit(self.ier, 4), old, byte)
     }
 
-    // After a byte is written to a register.
-    pub fn written(self, register: Register, byte: u8) -> Settings
-        ensures { λ r. ⌜ r ≡ writtenTo self register byte ⌝ }
+    // What a register takes of a byte that is written to it.
+    fn taken(self, register: Register, byte: u8) -> u8
+        ensures { λ r. ⌜ r ≡ takenBy self register byte ⌝ }
     {
-        let mut next = self;
-        match register {
-            Register::Rhr => next,
-            Register::Ier => {
-                next.ier = self.ier_written(byte);
-                next
-            }
-            Register::Iir => {
-                next.fcr = self.fcr_written(byte);
-                next
-            }
-            Register::Lcr => {
-                next.lcr = byte;
-                next
-            }
-            Register::Mcr => {
-                next.mcr = self.mcr_written(byte);
-                next
-            }
-            Register::Lsr => next,
-            Register::Msr => next,
-            Register::Spr => {
-                next.spr = byte;
-                next
-            }
-            Register::Txlvl => next,
-            Register::Rxlvl => next,
-            Register::IoControl => next,
-            Register::Efcr => {
-                next.efcr = self.efcr_written(byte);
-                next
-            }
-            Register::Tcr => {
-                next.tcr = byte;
-                next
-            }
-            Register::Tlr => {
-                next.tlr = byte;
-                next
-            }
-            Register::Dll => {
-                next.dll = self.divisor_written(self.dll, byte);
-                next
-            }
-            Register::Dlh => {
-                next.dlh = self.divisor_written(self.dlh, byte);
-                next
-            }
-            Register::Efr => {
-                next.efr = byte;
-                next
-            }
-            Register::Xon1 => {
-                next.xon1 = byte;
-                next
-            }
-            Register::Xon2 => {
-                next.xon2 = byte;
-                next
-            }
-            Register::Xoff1 => {
-                next.xoff1 = byte;
-                next
-            }
-            Register::Xoff2 => {
-                next.xoff2 = byte;
-                next
-            }
-            Register::Closed => next,
+        if register.is(Register::Ier) {
+            return self.ier_written(byte);
+        }
+        if register.is(Register::IirFcr) {
+            return self.fcr_written(byte);
+        }
+        if register.is(Register::Mcr) {
+            return self.mcr_written(byte);
+        }
+        if register.is(Register::Efcr) {
+            return self.efcr_written(byte);
+        }
+        if register.is(Register::Dll) {
+            return self.divisor_written(self.dll, byte);
+        }
+        if register.is(Register::Dlh) {
+            return self.divisor_written(self.dlh, byte);
+        }
+        byte
+    }
+
+    // What a write sets. A byte for THR goes to the queue.
+    pub fn written(self, register: Register, byte: u8) -> Setting
+        ensures { λ r. ⌜ r ≡ settingOf self register byte ⌝ }
+    {
+        if register.is(Register::RhrThr) {
+            return Setting::none();
+        }
+        Setting {
+            register: register,
+            byte: self.taken(register, byte),
         }
     }
 
-    // After a reset that gives LCR a value.
-    pub fn reset(self, lcr: u8) -> Settings
-        ensures { λ r. ⌜ r ≡ resetFrom self lcr ⌝ }
+    // With a register set. Most events set none, so that is asked first.
+    pub fn with(self, setting: Setting) -> Settings
+        ensures { λ r. ⌜ r ≡ withSetting self setting ⌝ }
     {
+        let register = setting.register;
+        if register.is(Register::Closed) {
+            return self;
+        }
         Settings {
-            lcr: lcr,
-            ier: 0,
-            fcr: 0,
-            mcr: 0,
-            spr: self.spr,
-            efr: 0,
-            efcr: 0,
-            tcr: 0,
-            tlr: 0,
-            dll: self.dll,
-            dlh: self.dlh,
-            xon1: self.xon1,
-            xon2: self.xon2,
-            xoff1: self.xoff1,
-            xoff2: self.xoff2,
+            lcr: setting.held(Register::Lcr, self.lcr),
+            ier: setting.held(Register::Ier, self.ier),
+            fcr: setting.held(Register::IirFcr, self.fcr),
+            mcr: setting.held(Register::Mcr, self.mcr),
+            spr: setting.held(Register::Spr, self.spr),
+            efr: setting.held(Register::Efr, self.efr),
+            efcr: setting.held(Register::Efcr, self.efcr),
+            tcr: setting.held(Register::Tcr, self.tcr),
+            tlr: setting.held(Register::Tlr, self.tlr),
+            dll: setting.held(Register::Dll, self.dll),
+            dlh: setting.held(Register::Dlh, self.dlh),
+            xon1: setting.held(Register::Xon1, self.xon1),
+            xon2: setting.held(Register::Xon2, self.xon2),
+            xoff1: setting.held(Register::Xoff1, self.xoff1),
+            xoff2: setting.held(Register::Xoff2, self.xoff2),
         }
     }
+}
+
+// Whether a byte written to a register resets the device.
+pub fn resets_device(register: Register, byte: u8) -> bool
+    ensures { λ r. ⌜ r ≡ resetsDevice register byte ⌝ }
+{
+    register.is(Register::IoControl) & bit(byte, 3)
 }

@@ -1,4 +1,4 @@
--- A number's digits stored one after the other, the last one last.
+-- For proofs alone: a number's digits stored one after the other, the last one last.
 use Prim.Native.Nat.{ℕ, _+_, _/_, _%_, _<_, _≤_}
 use mathlib.Core.Path.{_≡_}
 use mathlib.Core.List.{List}
@@ -7,9 +7,6 @@ use lib.Seq.{sets}
 use Rattle.run.specs.Text.{decimal}
 use Rattle.run.specs.Laws.{decimal-small, decimal-large}
 use Rattle.run.proofs.Stores.{sets-more}
-
-pub one-digit : (n : ℕ) → n < 10 → length (decimal n) ≡ 1
-one-digit n small = rw (decimal-small n small)
 
 pub digit-stored : (l : List ℕ) (at n : ℕ) → n < 10 → set l at (48 + n) ≡ sets l at (decimal n)
 digit-stored l at n small = rw (decimal-small n small)

@@ -1,4 +1,4 @@
--- A buffer filled step by step: after `i` steps it holds their text, and the rest is as it was.
+-- For proofs alone: a buffer filled step by step: after `i` steps it holds their text, and the rest is as it was.
 use Prim.Native.Nat.{ℕ, _+_, _-_, _≤_}
 use native.Mathlib.Nat.{zero-add}
 use native.Mathlib.Omega.{arith}
@@ -7,8 +7,8 @@ use mathlib.Core.List.{List, [], _++_, append-nil}
 use lib.ListN.{length, drop, length-append}
 use lib.Seq.{sets, sets-eq}
 use Rattle.run.specs.declared.cursor.Cursor.{Cursor}
-use Rattle.run.specs.declared.cursor.Advanced.{Advanced}
-use Rattle.run.specs.Cursor.{advancedOf, textSaid, textIn, cursorAfter, filledBy}
+use Rattle.run.specs.declared.cursor.Progress.{Progress}
+use Rattle.run.specs.Cursor.{progressOf, textSaid, textIn, cursorAfter, filledBy}
 use Rattle.run.specs.Laws.{cursor-sum, text-sum, cursor-more, text-more}
 use Rattle.run.proofs.Stores.{sets-append}
 
@@ -23,15 +23,15 @@ module _ (s : List ℕ) (c₀ : Cursor) (out₀ : List ℕ) where
   filling-new = record { cursor-is = refl; count-is = refl; out-is = refl }
 
   module _ (out : List ℕ) (c : Cursor) (count i : ℕ) (so-far : Filling s c₀ out₀ out c count i) where
-    pub filling-more : (out′ : List ℕ) (a : Advanced) (count′ : ℕ) → a ≡ advancedOf s c
-        → count′ ≡ count + length (textSaid (c .index) (a .said)) → out′ ≡ sets out count (textSaid (c .index) (a .said))
-        → Filling s c₀ out₀ out′ (a .cursor) count′ (i + 1)
-    filling-more out′ a count′ ha hc ho =
-        let text : textIn (i + 1) s c₀ ≡ textIn i s c₀ ++ textSaid (c .index) (a .said) = rw (ha, so-far .cursor-is) (text-more s i c₀) in
+    pub filling-more : (out′ : List ℕ) (p : Progress) (count′ : ℕ) → p ≡ progressOf s c
+        → count′ ≡ count + length (textSaid (c .index) (p .said)) → out′ ≡ sets out count (textSaid (c .index) (p .said))
+        → Filling s c₀ out₀ out′ (p .cursor) count′ (i + 1)
+    filling-more out′ p count′ hp hc ho =
+        let text : textIn (i + 1) s c₀ ≡ textIn i s c₀ ++ textSaid (c .index) (p .said) = rw (hp, so-far .cursor-is) (text-more s i c₀) in
         record {
-          cursor-is = rw (ha, so-far .cursor-is) (sym (cursor-more s i c₀));
-          count-is = rw (text, hc, so-far .count-is) (sym (length-append (textIn i s c₀) (textSaid (c .index) (a .said))));
-          out-is = rw (text, sets-append out₀ 0 (textIn i s c₀) (textSaid (c .index) (a .said)), zero-add, ← (so-far .count-is), ← (so-far .out-is)) ho;
+          cursor-is = rw (hp, so-far .cursor-is) (sym (cursor-more s i c₀));
+          count-is = rw (text, hc, so-far .count-is) (sym (length-append (textIn i s c₀) (textSaid (c .index) (p .said))));
+          out-is = rw (text, sets-append out₀ 0 (textIn i s c₀) (textSaid (c .index) (p .said)), zero-add, ← (so-far .count-is), ← (so-far .out-is)) ho;
         }
 
     -- what is left of the steps says nothing and moves nothing: the buffer is filled

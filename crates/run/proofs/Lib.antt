@@ -3,4 +3,3 @@ pub mod Stores
 pub mod Digits
 pub mod Lines
 pub mod Filling
-pub mod Determined

@@ -1,4 +1,4 @@
--- A line stored part by part.
+-- For proofs alone: a line stored part by part.
 use Prim.Native.Nat.{ℕ, _+_}
 use mathlib.Core.Path.{_≡_}
 use mathlib.Core.List.{List, [], _∷_, _++_, append-assoc}

@@ -1,4 +1,4 @@
--- Bytes stored one after the other.
+-- For proofs alone: bytes stored one after the other.
 use Prim.Native.Nat.{ℕ, suc, _+_, _<_, _≤_}
 use native.Mathlib.Nat.{add-zero}
 use native.Mathlib.Numerals.{add-one}

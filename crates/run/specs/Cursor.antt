@@ -1,4 +1,4 @@
--- A run taken step by step, and a buffer filled with the lines of its next steps.
+-- Definitions: a run taken step by step, and a buffer filled with the lines of its next steps.
 use Prim.Native.Nat.{ℕ, zero, suc, _+_, _≤_}
 use mathlib.Core.Bool.{true, false}
 use mathlib.Core.List.{List, [], _++_}
@@ -10,12 +10,13 @@ use Rattle.event.specs.declared.reading.Reading.the-variants as reading
 use Rattle.event.specs.Reading.{readAt}
 use Rattle.device.specs.declared.device.Answer.the-variants as answer
 use Rattle.device.specs.declared.device.Outcome.{Outcome}
+use Rattle.device.specs.Reset.{newDevice}
 use Rattle.device.specs.Device as device
-use Rattle.device.specs.Device.{newDevice, answeredOf}
+use Rattle.device.specs.Device.{answeredOf}
 use Rattle.run.specs.declared.cursor.Cursor.{Cursor}
 use Rattle.run.specs.declared.cursor.Said.{Said}
 use Rattle.run.specs.declared.cursor.Said.the-variants as said
-use Rattle.run.specs.declared.cursor.Advanced.{Advanced}
+use Rattle.run.specs.declared.cursor.Progress.{Progress}
 use Rattle.run.specs.declared.cursor.Filled.{Filled}
 use Rattle.run.specs.Text.{lineOf}
 
@@ -34,7 +35,7 @@ abbrev pub endedAt : Cursor → Cursor
 endedAt c = record { device = c .device; place = c .place; index = c .index; over = true }
 
 -- an event answered, and the next place, index and device
-abbrev pub goingOn : Cursor → ℕ → Outcome → Advanced
+abbrev pub goingOn : Cursor → ℕ → Outcome → Progress
 goingOn c next outcome =
     record {
       cursor = record { device = outcome .device; place = next; index = c .index + 1; over = false };
@@ -42,15 +43,15 @@ goingOn c next outcome =
     }
 
 -- after 1, 2, 3 and 9 "run ends", after 4 to 8 "next event"
-abbrev pub advancedBy : Cursor → Reading → Advanced
-advancedBy c (reading.Event e next) = goingOn c next (answeredOf (c .device) (made.Event e))
-advancedBy c (reading.Refused r next) = goingOn c next (answeredOf (c .device) (made.Refused r))
-advancedBy c (reading.Ended r) = record { cursor = endedAt c; said = said.Answer (answer.Refused r) }
-advancedBy c reading.End = record { cursor = endedAt c; said = said.Nothing }
+abbrev pub progressBy : Cursor → Reading → Progress
+progressBy c (reading.Event e next) = goingOn c next (answeredOf (c .device) (made.Event e))
+progressBy c (reading.Refused r next) = goingOn c next (answeredOf (c .device) (made.Refused r))
+progressBy c (reading.Ended r) = record { cursor = endedAt c; said = said.Answer (answer.Refused r) }
+progressBy c reading.End = record { cursor = endedAt c; said = said.Nothing }
 
 -- one step; a run that is over says nothing more
-unfoldable pub advancedOf : List ℕ → Cursor → Advanced
-advancedOf s c = pick (c .over) (record { cursor = c; said = said.Nothing }) (advancedBy c (readAt s (c .place)))
+unfoldable pub progressOf : List ℕ → Cursor → Progress
+progressOf s c = pick (c .over) (record { cursor = c; said = said.Nothing }) (progressBy c (readAt s (c .place)))
 
 unfoldable pub textSaid : ℕ → Said → List ℕ
 textSaid index (said.Answer a) = lineOf index a
@@ -59,11 +60,11 @@ textSaid index said.Nothing = []
 -- the text of a number of steps, and the cursor after them
 unfoldable pub textIn : ℕ → List ℕ → Cursor → List ℕ
 textIn zero s c = []
-textIn (suc n) s c = textSaid (c .index) (advancedOf s c .said) ++ textIn n s (advancedOf s c .cursor)
+textIn (suc n) s c = textSaid (c .index) (progressOf s c .said) ++ textIn n s (progressOf s c .cursor)
 
 unfoldable pub cursorAfter : ℕ → List ℕ → Cursor → Cursor
 cursorAfter zero s c = c
-cursorAfter (suc n) s c = cursorAfter n s (advancedOf s c .cursor)
+cursorAfter (suc n) s c = cursorAfter n s (progressOf s c .cursor)
 
 unfoldable pub filledBy : ℕ → List ℕ → Cursor → Filled
 filledBy n s c = record { cursor = cursorAfter n s c; count = length (textIn n s c) }

@@ -1,4 +1,4 @@
--- What follows from the definitions: a number in decimal, how long a line can be, and a run taken step by step.
+-- Laws: what follows from the definitions: a number in decimal, how long a line can be, and a run taken step by step.
 use Prim.Native.Nat.{ℕ, zero, suc, _+_, _-_, _*_, _/_, _%_, _<_, _≤_}
 use native.Mathlib.Nat.{zero-add, suc-add}
 use native.Mathlib.Omega.{arith}
@@ -23,9 +23,9 @@ use Rattle.event.specs.Theorems.{read-in-range}
 use Rattle.device.specs.Laws.{well-formed-new, well-formed-answered}
 use Rattle.run.specs.declared.cursor.Cursor.{Cursor}
 use Rattle.run.specs.declared.cursor.Said.the-variants as said
-use Rattle.run.specs.declared.cursor.Advanced.{Advanced}
+use Rattle.run.specs.declared.cursor.Progress.{Progress}
 use Rattle.run.specs.Text.{lastDigits, decimal, lineWith, okay, refused}
-use Rattle.run.specs.Cursor.{WellFormed, newCursor, advancedBy, advancedOf, textSaid, textIn, cursorAfter}
+use Rattle.run.specs.Cursor.{WellFormed, newCursor, progressBy, progressOf, textSaid, textIn, cursorAfter}
 
 -- a number is below another, or it is not
 pub below-or-not : {P : Type 0} (n m : ℕ) → (n < m → P) → (m ≤ n → P) → P
@@ -64,8 +64,8 @@ digits-within : (bound k n : ℕ) → 0 < k → ((m : ℕ) → m < bound → len
 digits-within bound k n some fewer small =
     below-or-not n 10 (λ one. rw (decimal-small n one) (omega arith)) (λ large. omega (arith, digits-more n large, fewer (n / 10) (omega arith)))
 
-one-digit : (n : ℕ) → n < 10 → length (decimal n) ≤ 1
-one-digit n small = rw (decimal-small n small) (omega arith)
+pub one-digit : (n : ℕ) → n < 10 → length (decimal n) ≡ 1
+one-digit n small = rw (decimal-small n small)
 
 pub five-digits : (n : ℕ) → n < 100000 → length (decimal n) ≤ 5
 five-digits n small =
@@ -73,7 +73,7 @@ five-digits n small =
     (λ m m-small.
     digits-within 1000 3 m (omega arith)
     (λ l l-small.
-    digits-within 100 2 l (omega arith) (λ k k-small. digits-within 10 1 k (omega arith) one-digit k-small) l-small)
+    digits-within 100 2 l (omega arith) (λ k k-small. digits-within 10 1 k (omega arith) (λ d d-small. omega (arith, one-digit d d-small)) k-small) l-small)
     m-small)
     small
 
@@ -120,7 +120,7 @@ unfolding readAt
 past-the-end s at short past = rw (le-ltb 65536 (length s) short, le-leb (length s) at past)
 
 module _ (s : List ℕ) (c : Cursor) (ok : WellFormed c) where
-  well-formed-by : length s ≤ 65536 → (r : Reading) → ReadingFrom s (c .place) r → WellFormed (advancedBy c r .cursor)
+  well-formed-by : length s ≤ 65536 → (r : Reading) → ReadingFrom s (c .place) r → WellFormed (progressBy c r .cursor)
   well-formed-by short (reading.Event e next) from =
       record {
         device-in = well-formed-answered (c .device) (made.Event e) (from .2) (ok .device-in);
@@ -136,10 +136,10 @@ module _ (s : List ℕ) (c : Cursor) (ok : WellFormed c) where
   well-formed-by short (reading.Ended r) from = record { device-in = ok .device-in; index-in = ok .index-in; place-in = ok .place-in }
   well-formed-by short reading.End from = record { device-in = ok .device-in; index-in = ok .index-in; place-in = ok .place-in }
 
-  pub well-formed-advanced : WellFormed (advancedOf s c .cursor)
-  unfolding advancedOf
-  well-formed-advanced =
-      pick-by (λ (a : Advanced). WellFormed (a .cursor)) (c .over) (λ _. ok)
+  pub well-formed-progress : WellFormed (progressOf s c .cursor)
+  unfolding progressOf
+  well-formed-progress =
+      pick-by (λ (p : Progress). WellFormed (p .cursor)) (c .over) (λ _. ok)
       (λ _.
       below-or-not 65536 (length s)
       (λ long. rw (long-refused s (c .place) long) (record { device-in = ok .device-in; index-in = ok .index-in; place-in = ok .place-in }))
@@ -148,47 +148,47 @@ module _ (s : List ℕ) (c : Cursor) (ok : WellFormed c) where
 pub well-formed-after : (n : ℕ) (s : List ℕ) (c : Cursor) → WellFormed c → WellFormed (cursorAfter n s c)
 unfolding cursorAfter
 well-formed-after zero s c ok = ok
-well-formed-after (suc n) s c ok = well-formed-after n s (advancedOf s c .cursor) (well-formed-advanced s c ok)
+well-formed-after (suc n) s c ok = well-formed-after n s (progressOf s c .cursor) (well-formed-progress s c ok)
 
 -- ---- a run that is over says nothing more and stays as it is
 module _ (s : List ℕ) where
-  over-advanced : (c : Cursor) → c .over ≡ true → advancedOf s c ≡ record { cursor = c; said = said.Nothing }
-  unfolding advancedOf
-  over-advanced c over =
-      ap (λ (b : Bool). pick b (record { cursor = c; said = said.Nothing }) (advancedBy c (readAt s (c .place)))) over
+  over-progress : (c : Cursor) → c .over ≡ true → progressOf s c ≡ record { cursor = c; said = said.Nothing }
+  unfolding progressOf
+  over-progress c over =
+      ap (λ (b : Bool). pick b (record { cursor = c; said = said.Nothing }) (progressBy c (readAt s (c .place)))) over
 
-  pub going-advanced : (c : Cursor) → c .over ≡ false → advancedOf s c ≡ advancedBy c (readAt s (c .place))
-  unfolding advancedOf
-  going-advanced c going =
-      ap (λ (b : Bool). pick b (record { cursor = c; said = said.Nothing }) (advancedBy c (readAt s (c .place)))) going
+  pub going-progress : (c : Cursor) → c .over ≡ false → progressOf s c ≡ progressBy c (readAt s (c .place))
+  unfolding progressOf
+  going-progress c going =
+      ap (λ (b : Bool). pick b (record { cursor = c; said = said.Nothing }) (progressBy c (readAt s (c .place)))) going
 
   pub over-still : (n : ℕ) (c : Cursor) → c .over ≡ true → cursorAfter n s c ≡ c
   unfolding cursorAfter
   over-still zero c over = refl
-  over-still (suc n) c over = rw (over-advanced c over) (over-still n c over)
+  over-still (suc n) c over = rw (over-progress c over) (over-still n c over)
 
   pub over-silent : (n : ℕ) (c : Cursor) → c .over ≡ true → textIn n s c ≡ []
   unfolding textIn textSaid
   over-silent zero c over = refl
-  over-silent (suc n) c over = rw (over-advanced c over) (over-silent n c over)
+  over-silent (suc n) c over = rw (over-progress c over) (over-silent n c over)
 
   -- ---- some steps and then some more are as many together
   pub cursor-sum : (m n : ℕ) (c : Cursor) → cursorAfter (m + n) s c ≡ cursorAfter n s (cursorAfter m s c)
   unfolding cursorAfter
   cursor-sum zero n c = rw zero-add
-  cursor-sum (suc m) n c = rw suc-add (cursor-sum m n (advancedOf s c .cursor))
+  cursor-sum (suc m) n c = rw suc-add (cursor-sum m n (progressOf s c .cursor))
 
   pub text-sum : (m n : ℕ) (c : Cursor) → textIn (m + n) s c ≡ textIn m s c ++ textIn n s (cursorAfter m s c)
   unfolding textIn cursorAfter
   text-sum zero n c = rw zero-add
-  text-sum (suc m) n c = rw (suc-add, text-sum m n (advancedOf s c .cursor), append-assoc)
+  text-sum (suc m) n c = rw (suc-add, text-sum m n (progressOf s c .cursor), append-assoc)
 
-  pub cursor-more : (n : ℕ) (c : Cursor) → cursorAfter (n + 1) s c ≡ advancedOf s (cursorAfter n s c) .cursor
+  pub cursor-more : (n : ℕ) (c : Cursor) → cursorAfter (n + 1) s c ≡ progressOf s (cursorAfter n s c) .cursor
   unfolding cursorAfter
   cursor-more n c = cursor-sum n 1 c
 
   pub text-more : (n : ℕ) (c : Cursor)
-      → textIn (n + 1) s c ≡ textIn n s c ++ textSaid (cursorAfter n s c .index) (advancedOf s (cursorAfter n s c) .said)
+      → textIn (n + 1) s c ≡ textIn n s c ++ textSaid (cursorAfter n s c .index) (progressOf s (cursorAfter n s c) .said)
   unfolding textIn
   text-more n c = text-sum n 1 c ∙ rw append-nil
 
@@ -197,35 +197,35 @@ abbrev pub left : List ℕ → Cursor → ℕ
 left s c = pick (c .over) 0 (suc (length s - c .place))
 
 module _ (s : List ℕ) where
-  nearer-by : (c : Cursor) (r : Reading) → ReadingFrom s (c .place) r → left s (advancedBy c r .cursor) < suc (length s - c .place)
+  nearer-by : (c : Cursor) (r : Reading) → ReadingFrom s (c .place) r → left s (progressBy c r .cursor) < suc (length s - c .place)
   nearer-by c (reading.Event e next) from = omega (arith, from .0, from .1)
   nearer-by c (reading.Refused r next) from = omega (arith, from .0, from .1)
   nearer-by c (reading.Ended r) from = omega arith
   nearer-by c reading.End from = omega arith
 
   -- every step of a run that is not over brings it nearer to its end
-  pub nearer : (c : Cursor) → c .over ≡ false → left s (advancedOf s c .cursor) < left s c
+  pub nearer : (c : Cursor) → c .over ≡ false → left s (progressOf s c .cursor) < left s c
   nearer c going =
-      rw (going-advanced s c going)
+      rw (going-progress s c going)
       (omega (arith, nearer-by c (readAt s (c .place)) (reading-from s (c .place)), ap (λ (b : Bool). pick b 0 (suc (length s - c .place))) going))
 
   -- and no step takes it further away
-  pub no-further : (c : Cursor) → left s (advancedOf s c .cursor) ≤ left s c
+  pub no-further : (c : Cursor) → left s (progressOf s c .cursor) ≤ left s c
   no-further c = go (c .over) refl
     where
-      go : (b : Bool) → c .over ≡ b → left s (advancedOf s c .cursor) ≤ left s c
-      go true over = rw (over-advanced s c over) (omega arith)
+      go : (b : Bool) → c .over ≡ b → left s (progressOf s c .cursor) ≤ left s c
+      go true over = rw (over-progress s c over) (omega arith)
       go false going = omega (arith, nearer c going)
 
   pub no-further-after : (n : ℕ) (c : Cursor) → left s (cursorAfter n s c) ≤ left s c
   unfolding cursorAfter
   no-further-after zero c = omega arith
-  no-further-after (suc n) c = omega (arith, no-further-after n (advancedOf s c .cursor), no-further c)
+  no-further-after (suc n) c = omega (arith, no-further-after n (progressOf s c .cursor), no-further c)
 
   pub nearer-after : (n : ℕ) (c : Cursor) → 0 < n → c .over ≡ false → left s (cursorAfter n s c) < left s c
   unfolding cursorAfter
   nearer-after zero c some going = absurd (omega arith)
-  nearer-after (suc n) c some going = omega (arith, no-further-after n (advancedOf s c .cursor), nearer c going)
+  nearer-after (suc n) c some going = omega (arith, no-further-after n (progressOf s c .cursor), nearer c going)
 
   over-by : (c : Cursor) → left s c ≡ 0 → c .over ≡ true
   over-by c none = go (c .over) refl
@@ -241,9 +241,9 @@ module _ (s : List ℕ) where
   pub over-after : (n : ℕ) (c : Cursor) → left s c ≤ n → cursorAfter n s c .over ≡ true
   unfolding cursorAfter
   over-after zero c few = over-by c (omega arith)
-  over-after (suc n) c few = go (c .over) refl (over-after n (advancedOf s c .cursor))
+  over-after (suc n) c few = go (c .over) refl (over-after n (progressOf s c .cursor))
     where
-      go : (b : Bool) → c .over ≡ b → (left s (advancedOf s c .cursor) ≤ n → cursorAfter n s (advancedOf s c .cursor) .over ≡ true)
-          → cursorAfter n s (advancedOf s c .cursor) .over ≡ true
-      go true over then = rw (over-advanced s c over) (over-after-over n c over)
+      go : (b : Bool) → c .over ≡ b → (left s (progressOf s c .cursor) ≤ n → cursorAfter n s (progressOf s c .cursor) .over ≡ true)
+          → cursorAfter n s (progressOf s c .cursor) .over ≡ true
+      go true over then = rw (over-progress s c over) (over-after-over n c over)
       go false going then = then (omega (arith, nearer c going))

@@ -1,4 +1,4 @@
--- "one line an event: index from 0, a space, "OK" or "REFUSED", a space, the reply or refusal number"
+-- Definitions: "one line an event: index from 0, a space, "OK" or "REFUSED", a space, the reply or refusal number"
 use Prim.Native.Nat.{ℕ, zero, suc, _+_, _/_, _%_}
 use mathlib.Core.List.{List, [], _∷_, _++_}
 use lib.Dec.{ltb}

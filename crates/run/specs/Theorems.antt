@@ -1,4 +1,5 @@
--- A run ends, its answers are counted from 0, an input too long is only refused, and buffers filled one after the other hold its text.
+-- Laws: a run ends, its answers are counted from 0, an input too long is only refused, and buffers filled one after the other
+-- hold its text.
 use Prim.Native.Nat.{ℕ, zero, suc, _+_, _-_, _*_, _/_, _%_, _<_, _≤_}
 use native.Mathlib.Omega.{arith}
 use mathlib.Core.Path.{_≡_, refl, sym, ap, _∙_}
@@ -14,13 +15,14 @@ use Rattle.event.specs.Reading.{readAt}
 use Rattle.event.specs.Laws.{ReadingFrom, reading-from}
 use Rattle.device.specs.declared.device.Device.{Device}
 use Rattle.device.specs.declared.device.Answer.the-variants as answer
-use Rattle.device.specs.Device.{newDevice, answeredOf}
+use Rattle.device.specs.Reset.{newDevice}
+use Rattle.device.specs.Device.{answeredOf}
 use Rattle.run.specs.declared.cursor.Cursor.{Cursor}
 use Rattle.run.specs.declared.cursor.Filled.{Filled}
 use Rattle.run.specs.Text.{lastDigits, decimal, lineWith, lineOf}
-use Rattle.run.specs.Run.{Indexed, answersBy, answersFrom, answersIn, answersOf, linesOf, textOf}
-use Rattle.run.specs.Cursor.{newCursor, endedAt, advancedBy, textSaid, textIn, cursorAfter, filledBy}
-use Rattle.run.specs.Laws.{below-or-not, decimal-small, decimal-large, long-refused, past-the-end, going-advanced, over-silent, cursor-sum, text-sum, left, over-after}
+use Rattle.run.specs.Run.{Indexed, runBy, runFrom, runUpTo, runOf, linesOf, textOf}
+use Rattle.run.specs.Cursor.{newCursor, endedAt, progressBy, textSaid, textIn, cursorAfter, filledBy}
+use Rattle.run.specs.Laws.{below-or-not, decimal-small, decimal-large, long-refused, past-the-end, going-progress, over-silent, cursor-sum, text-sum, left, over-after}
 
 -- ---- a number in decimal: digits that say the number, without leading zeros
 module _ (P : ℕ → List ℕ → Type 0) (one : (n : ℕ) → n < 10 → P n ((48 + n) ∷ []))
@@ -49,14 +51,14 @@ abbrev pub AllDigits : List ℕ → Type 0
 AllDigits [] = Unit {0}
 AllDigits (b ∷ rest) = (48 ≤ b) × (b ≤ 57) × AllDigits rest
 
-digits-more : (l : List ℕ) (digit : ℕ) → AllDigits l → 48 ≤ digit → digit ≤ 57 → AllDigits (l ++ (digit ∷ []))
-digits-more [] digit all low high = (low, high, tt)
-digits-more (b ∷ l) digit all low high = (all .0, all .1, digits-more l digit (all .2) low high)
+all-digits-more : (l : List ℕ) (digit : ℕ) → AllDigits l → 48 ≤ digit → digit ≤ 57 → AllDigits (l ++ (digit ∷ []))
+all-digits-more [] digit all low high = (low, high, tt)
+all-digits-more (b ∷ l) digit all low high = (all .0, all .1, all-digits-more l digit (all .2) low high)
 
 pub decimal-digits : (n : ℕ) → AllDigits (decimal n)
 decimal-digits n =
     by-digits (λ (n : ℕ) (l : List ℕ). AllDigits l) (λ n small. omega arith)
-    (λ n l large all. digits-more l (48 + n % 10) all (omega arith) (omega arith)) (suc n) n (omega arith)
+    (λ n l large all. all-digits-more l (48 + n % 10) all (omega arith) (omega arith)) (suc n) n (omega arith)
 
 -- the first digit is 0 only of the number 0
 pub no-leading-zero : (n : ℕ) → getD (decimal n) 0 0 ≡ 48 → n ≡ 0
@@ -71,16 +73,16 @@ no-leading-zero n =
 module _ (s : List ℕ) where
   -- two counts give the same answers by a reading if they do from any place after it
   same-by : (j k at index : ℕ) (d : Device) (r : Reading) → ReadingFrom s at r
-      → ((next i : ℕ) (e : Device) → at < next → answersFrom j s next i e ≡ answersFrom k s next i e)
-      → answersBy (answersFrom j s) index d r ≡ answersBy (answersFrom k s) index d r
+      → ((next i : ℕ) (e : Device) → at < next → runFrom j s next i e ≡ runFrom k s next i e)
+      → runBy (runFrom j s) index d r ≡ runBy (runFrom k s) index d r
   same-by j k at index d (reading.Event e next) from same = rw (same next (index + 1) (answeredOf d (made.Event e) .device) (from .0))
   same-by j k at index d (reading.Refused r next) from same = rw (same next (index + 1) (answeredOf d (made.Refused r) .device) (from .0))
   same-by j k at index d (reading.Ended r) from same = refl
   same-by j k at index d reading.End from same = refl
 
   short-enough : length s ≤ 65536 → (j k at index : ℕ) (d : Device) → length s ≤ at + j → length s ≤ at + k
-      → answersFrom j s at index d ≡ answersFrom k s at index d
-  unfolding answersFrom
+      → runFrom j s at index d ≡ runFrom k s at index d
+  unfolding runFrom
   short-enough short zero zero at index d few-j few-k = refl
   short-enough short zero (suc k) at index d few-j few-k = rw (past-the-end s at short (omega arith))
   short-enough short (suc j) zero at index d few-j few-k = rw (past-the-end s at short (omega arith))
@@ -88,32 +90,32 @@ module _ (s : List ℕ) where
       same-by j k at index d (readAt s at) (reading-from s at)
       (λ next i e past. short-enough short j k next i e (omega arith) (omega arith))
 
-  long-enough : 65536 < length s → (k : ℕ) → 0 < k → answersIn k s ≡ record { index = 0; answer = answer.Refused refusal.Long } ∷ []
-  unfolding answersFrom
+  long-enough : 65536 < length s → (k : ℕ) → 0 < k → runUpTo k s ≡ record { index = 0; answer = answer.Refused refusal.Long } ∷ []
+  unfolding runFrom
   long-enough long zero some = absurd (omega arith)
   long-enough long (suc k) some = rw (long-refused s 0 long)
 
-  pub every-run-ends : (k : ℕ) → length s ≤ k → answersIn k s ≡ answersOf s
-  unfolding answersOf
+  pub every-run-ends : (k : ℕ) → length s ≤ k → runUpTo k s ≡ runOf s
+  unfolding runOf
   every-run-ends k few =
       below-or-not 65536 (length s)
       (λ long. long-enough long k (omega arith) ∙ sym (long-enough long (length s) (omega arith)))
       (λ short. short-enough short k (length s) 0 0 newDevice (omega arith) (omega arith))
 
-  most-by : (k index : ℕ) (d : Device) (r : Reading) → ((next i : ℕ) (e : Device) → length (answersFrom k s next i e) ≤ k)
-      → length (answersBy (answersFrom k s) index d r) ≤ suc k
+  most-by : (k index : ℕ) (d : Device) (r : Reading) → ((next i : ℕ) (e : Device) → length (runFrom k s next i e) ≤ k)
+      → length (runBy (runFrom k s) index d r) ≤ suc k
   most-by k index d (reading.Event e next) most = omega (arith, most next (index + 1) (answeredOf d (made.Event e) .device))
   most-by k index d (reading.Refused r next) most = omega (arith, most next (index + 1) (answeredOf d (made.Refused r) .device))
   most-by k index d (reading.Ended r) most = omega arith
   most-by k index d reading.End most = omega arith
 
-  at-most : (k at index : ℕ) (d : Device) → length (answersFrom k s at index d) ≤ k
-  unfolding answersFrom
+  at-most : (k at index : ℕ) (d : Device) → length (runFrom k s at index d) ≤ k
+  unfolding runFrom
   at-most zero at index d = omega arith
   at-most (suc k) at index d = most-by k index d (readAt s at) (λ next i e. at-most k next i e)
 
-  pub no-more-answers-than-bytes : length (answersOf s) ≤ length s
-  unfolding answersOf
+  pub no-more-answers-than-bytes : length (runOf s) ≤ length s
+  unfolding runOf
   no-more-answers-than-bytes = at-most (length s) 0 0 newDevice
 
 -- ---- "index from 0"
@@ -122,51 +124,51 @@ CountedFrom index [] = Unit {0}
 CountedFrom index (a ∷ rest) = (a .index ≡ index) × CountedFrom (index + 1) rest
 
 module _ (s : List ℕ) where
-  counted-by : (k index : ℕ) (d : Device) (r : Reading) → ((next i : ℕ) (e : Device) → CountedFrom i (answersFrom k s next i e))
-      → CountedFrom index (answersBy (answersFrom k s) index d r)
+  counted-by : (k index : ℕ) (d : Device) (r : Reading) → ((next i : ℕ) (e : Device) → CountedFrom i (runFrom k s next i e))
+      → CountedFrom index (runBy (runFrom k s) index d r)
   counted-by k index d (reading.Event e next) counted = (refl, counted next (index + 1) (answeredOf d (made.Event e) .device))
   counted-by k index d (reading.Refused r next) counted = (refl, counted next (index + 1) (answeredOf d (made.Refused r) .device))
   counted-by k index d (reading.Ended r) counted = (refl, tt)
   counted-by k index d reading.End counted = tt
 
-  counted : (k at index : ℕ) (d : Device) → CountedFrom index (answersFrom k s at index d)
-  unfolding answersFrom
+  counted : (k at index : ℕ) (d : Device) → CountedFrom index (runFrom k s at index d)
+  unfolding runFrom
   counted zero at index d = tt
   counted (suc k) at index d = counted-by k index d (readAt s at) (λ next i e. counted k next i e)
 
-  pub counted-from-zero : CountedFrom 0 (answersOf s)
-  unfolding answersOf
+  pub counted-from-zero : CountedFrom 0 (runOf s)
+  unfolding runOf
   counted-from-zero = counted (length s) 0 0 newDevice
 
 -- ---- "An empty file gives no lines."
 pub empty-input : textOf [] ≡ []
-unfolding textOf answersOf answersFrom linesOf
+unfolding textOf runOf runFrom linesOf
 empty-input = refl
 
 -- ---- "For 9 it prints only "0 REFUSED 9"."
 pub long-input : (s : List ℕ) → 65536 < length s
     → textOf s ≡ 48 ∷ 32 ∷ 82 ∷ 69 ∷ 70 ∷ 85 ∷ 83 ∷ 69 ∷ 68 ∷ 32 ∷ 57 ∷ 10 ∷ []
-unfolding textOf answersOf linesOf lineOf lineWith decimal lastDigits
+unfolding textOf runOf linesOf lineOf lineWith decimal lastDigits
 long-input s long = rw (long-enough s long (length s) (omega arith))
 
 -- ---- a run taken step by step says the text of its answers
 module _ (s : List ℕ) where
   said-by : (n : ℕ) (c : Cursor) (r : Reading)
-      → ((e : Cursor) → e .over ≡ false → textIn n s e ≡ linesOf (answersFrom n s (e .place) (e .index) (e .device)))
-      → textSaid (c .index) (advancedBy c r .said) ++ textIn n s (advancedBy c r .cursor)
-      ≡ linesOf (answersBy (answersFrom n s) (c .index) (c .device) r)
+      → ((e : Cursor) → e .over ≡ false → textIn n s e ≡ linesOf (runFrom n s (e .place) (e .index) (e .device)))
+      → textSaid (c .index) (progressBy c r .said) ++ textIn n s (progressBy c r .cursor)
+      ≡ linesOf (runBy (runFrom n s) (c .index) (c .device) r)
   unfolding textSaid linesOf
-  said-by n c (reading.Event e next) same = rw (same (advancedBy c (reading.Event e next) .cursor) refl)
-  said-by n c (reading.Refused r next) same = rw (same (advancedBy c (reading.Refused r next) .cursor) refl)
+  said-by n c (reading.Event e next) same = rw (same (progressBy c (reading.Event e next) .cursor) refl)
+  said-by n c (reading.Refused r next) same = rw (same (progressBy c (reading.Refused r next) .cursor) refl)
   said-by n c (reading.Ended r) same = rw (over-silent s n (endedAt c) refl)
   said-by n c reading.End same = over-silent s n (endedAt c) refl
 
   steps-say-the-answers : (n : ℕ) (c : Cursor) → c .over ≡ false
-      → textIn n s c ≡ linesOf (answersFrom n s (c .place) (c .index) (c .device))
-  unfolding textIn answersFrom linesOf
+      → textIn n s c ≡ linesOf (runFrom n s (c .place) (c .index) (c .device))
+  unfolding textIn runFrom linesOf
   steps-say-the-answers zero c going = refl
   steps-say-the-answers (suc n) c going =
-      rw (going-advanced s c going) (said-by n c (readAt s (c .place)) (λ e going-on. steps-say-the-answers n e going-on))
+      rw (going-progress s c going) (said-by n c (readAt s (c .place)) (λ e going-on. steps-say-the-answers n e going-on))
 
   pub steps-are-the-text : (n : ℕ) → length s ≤ n → textIn n s newCursor ≡ textOf s
   unfolding textOf newCursor

@@ -9,7 +9,7 @@ ghost use mathlib.Core.List.{_++_};
 ghost use Prim.Native.Nat.{_+_, _/_, _≤_};
 ghost use lib.ListN.{length, drop};
 ghost use lib.Seq.{sets};
-ghost use Rattle.run.specs.Cursor.{WellFormed, newCursor, endedAt, advancedOf, textSaid, textIn, filledBy};
+ghost use Rattle.run.specs.Cursor.{WellFormed, newCursor, endedAt, progressOf, textSaid, textIn, filledBy};
 
 // The bytes of the longest line.
 const LINE: usize = 16;
@@ -28,7 +28,8 @@ enum Said {
     Nothing,
 }
 
-struct Advanced {
+// The cursor after a step, and what the step says.
+struct Progress {
     cursor: Cursor,
     said: Said,
 }
@@ -72,12 +73,12 @@ impl Cursor {
     }
 
     // One event read and answered.
-    fn advance(self, input: &[u8]) -> Advanced
+    fn proceed(self, input: &[u8]) -> Progress
         requires { ⌜ WellFormed self ⌝ }
-        ensures { λ r. ⌜ r ≡ advancedOf (now (input .entry)) self ⌝ }
+        ensures { λ r. ⌜ r ≡ progressOf (now (input .entry)) self ⌝ }
     {
         if self.over {
-            return Advanced {
+            return Progress {
                 cursor: self,
                 said: Said::Nothing,
             };
@@ -95,7 +96,7 @@ impl Cursor {
                     index: index,
                     over: false,
                 };
-                Advanced {
+                Progress {
                     cursor: cursor,
                     said: Said::Answer(answer),
                 }
@@ -105,16 +106,16 @@ impl Cursor {
                 let mut cursor = self;
                 cursor.place = next;
                 cursor.index = index;
-                Advanced {
+                Progress {
                     cursor: cursor,
                     said: Said::Answer(Answer::Refused(refusal)),
                 }
             }
-            Reading::Ended(refusal) => Advanced {
+            Reading::Ended(refusal) => Progress {
                 cursor: self.ended(),
                 said: Said::Answer(Answer::Refused(refusal)),
             },
-            Reading::End => Advanced {
+            Reading::End => Progress {
                 cursor: self.ended(),
                 said: Said::Nothing,
             },
@@ -139,9 +140,9 @@ impl Cursor {
                 };
             }
             let index = cursor.index;
-            let step = cursor.advance(input);
-            let said = step.said;
-            let next = step.cursor;
+            let progress = cursor.proceed(input);
+            let said = progress.said;
+            let next = progress.cursor;
             count = put_said(out, count, index, said);
             cursor = next;
             i += 1;

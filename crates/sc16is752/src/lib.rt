@@ -1,9 +1,11 @@
 // The chip as C sees it: two functions over a record that the caller keeps and lends.
 use device::Device;
+use lent::advance;
 ghost use mathlib.Core.Path.{_≡_};
 ghost use Rattle.event.specs.Events.{eventOf};
-ghost use Rattle.device.specs.Device.{WellFormed, newDevice};
-ghost use Rattle.device.specs.Lent.{Advanced};
+ghost use Rattle.device.specs.Reset.{newDevice};
+ghost use Rattle.device.specs.Device.{WellFormed};
+ghost use Rattle.lent.specs.Lent.{Advanced};
 
 // The lent record is a new device's afterwards.
 #[no_mangle]
@@ -19,5 +21,5 @@ pub extern "C" fn sc16is752_step(chip: &mut Device, kind: u64, x: u64, y: u64, z
     requires { ⌜ WellFormed (now chip) ⌝ }
     ensures { λ r. ⌜ Advanced (now (chip .entry)) (eventOf kind x y z) (now (chip .exit)) r ⌝ }
 {
-    chip.advance(kind, x, y, z)
+    advance(chip, kind, x, y, z)
 }

@@ -1,5 +1,5 @@
 use borrow.Author.Tests.{ne-eqb}
-use Rattle.device.specs.Effects.{sideNumbered}
+use Rattle.device.specs.Device.{sideNumbered}
 use Rattle.device.proofs.side.numbered.Statement.{statement}
 use Rattle.device.proofs.side.numbered.Tie as tie
 

@@ -6,11 +6,14 @@ use Rattle.event.proofs.events.read.Tie as tie
 returns : tie.Need-returns
 returns c = simp (lt-ltb _ _ (c .if1 .taken))
 
-cast-t5 : tie.Need-cast-t5
-cast-t5 c = search needs
+cast-t6 : tie.Need-cast-t6
+cast-t6 c = search needs
+
+at-requires : tie.Need-at-requires
+at-requires c κs = search needs
 
 returns-2 : tie.Need-returns-2
-returns-2 c = simp (le-ltb _ _ (c .if1 .left))
+returns-2 c = simp (c .at .ensures, le-ltb _ _ (c .before .if1 .left))
 
 pub read-spec : {M : Type 1} → statement M
-read-spec = tie.close (tie.spec returns cast-t5 returns-2)
+read-spec = tie.close (tie.spec returns cast-t6 at-requires returns-2)

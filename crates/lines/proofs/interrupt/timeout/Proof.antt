@@ -11,7 +11,7 @@ bit-requires-2 c κs = search needs
 
 returns : tie.Need-returns
 unfolding timeoutPending
-returns c = simp (c .before .bit2 .ensures, c .before .before .bit .ensures)
+returns c = simp (c .before .before .bit2 .ensures, c .before .before .before .bit .ensures)
 
 pub timeout-spec : {M : Type 1} → statement M
 timeout-spec = tie.close (tie.spec bit-requires bit-requires-2 returns)

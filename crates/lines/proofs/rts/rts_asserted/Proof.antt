@@ -9,9 +9,12 @@ bit-requires c κs = search needs
 bit-requires-2 : tie.Need-bit-requires-2
 bit-requires-2 c κs = search needs
 
+differ-requires : tie.Need-differ-requires
+differ-requires c κs = search needs
+
 returns : tie.Need-returns
 unfolding rtsOf
-returns c = simp (c .bit2 .ensures, c .before .if1 .taken, ← (c .before .before .bit .ensures))
+returns c = simp (c .differ .ensures, c .before .bit2 .ensures, c .before .before .if1 .taken, ← (c .before .before .before .bit .ensures))
 
 bit-requires-3 : tie.Need-bit-requires-3
 bit-requires-3 c κs = search needs
@@ -33,6 +36,7 @@ rts-asserted-spec =
     (tie.spec
     bit-requires
     bit-requires-2
+    differ-requires
     returns
     bit-requires-3
     returns-2

@@ -6,9 +6,6 @@ use Rattle.lines.proofs.transmit.thr_condition.Tie as tie
 bit-requires : tie.Need-bit-requires
 bit-requires c κs = search needs
 
-spaces-requires : tie.Need-spaces-requires
-spaces-requires c κs = search needs
-
 transmit-level-requires : tie.Need-transmit-level-requires
 transmit-level-requires c κs = search needs
 
@@ -17,19 +14,22 @@ reaches-requires c κs = search needs
 
 returns : tie.Need-returns
 unfolding thrCondition
-returns c = simp (c .reaches .ensures, c .before .transmit-level .ensures, c .before .before .spaces .ensures, c .before .before .before .if1 .taken, ← (c .before .before .before .before .bit .ensures))
+returns c = simp (c .reaches .ensures, c .before .transmit-level .ensures, c .before .before .if1 .taken, ← (c .before .before .before .bit .ensures))
+
+all-free-requires : tie.Need-all-free-requires
+all-free-requires c κs = search needs
 
 returns-2 : tie.Need-returns-2
 unfolding thrCondition
-returns-2 c = simp (c .if1 .left, ← (c .before .bit .ensures))
+returns-2 c = simp (c .all-free .ensures, c .before .if1 .left, ← (c .before .before .bit .ensures))
 
 pub thr-condition-spec : {M : Type 1} → statement M
 thr-condition-spec =
     tie.close
     (tie.spec
     bit-requires
-    spaces-requires
     transmit-level-requires
     reaches-requires
     returns
+    all-free-requires
     returns-2)

@@ -1,5 +1,7 @@
-use Rattle.queue.proofs.OneWay.{oldest-or-none}
+use lib.Dec.{eqb}
 use borrow.Author.Needs.{needs}
+use Rattle.queue.specs.Queue.{oldestOf}
+use Rattle.queue.proofs.OneWay.{oldest-or-none}
 use Rattle.queue.proofs.Queue.oldest.Statement.{statement}
 use Rattle.queue.proofs.Queue.oldest.Tie as tie
 
@@ -19,7 +21,10 @@ chosen-requires-2 : tie.Need-chosen-requires-2
 chosen-requires-2 c κs = search needs
 
 returns : tie.Need-returns
-returns c = simp (c .chosen2 .ensures, c .before .chosen .ensures) (oldest-or-none (c .before .before .before .before .before .before .args .self))
+unfolding oldestOf
+returns c =
+    let self = c .before .before .before .before .before .before .args .self in
+    simp (c .chosen2 .ensures, c .before .chosen .ensures) (oldest-or-none self (eqb (self .count) 0))
 
 pub oldest-spec : {M : Type 1} → statement M
 oldest-spec =

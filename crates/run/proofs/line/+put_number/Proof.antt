@@ -5,8 +5,8 @@ use mathlib.Core.Path.{_∙_}
 use lib.ListN.{length-set}
 use borrow.Fn.Kinds.{In}
 use borrow.Fn.PlainCycle.{Measures, is, falls, and}
-use Rattle.run.specs.Laws.{digits-more}
-use Rattle.run.proofs.Digits.{one-digit, digit-stored, digits-stored}
+use Rattle.run.specs.Laws.{one-digit, digits-more}
+use Rattle.run.proofs.Digits.{digit-stored, digits-stored}
 use Rattle.run.proofs.line.put_number.Reads as put-number
 use Rattle.run.proofs.line.put_number.Kinds as put-number-kinds
 use Rattle.run.proofs.line.+put_number.Lts-put_number as put-number-lts

@@ -1,5 +1,5 @@
 use borrow.Author.Needs.{needs}
-use Rattle.device.specs.Lent.{answerNumber}
+use Rattle.device.specs.Device.{answerNumber}
 use Rattle.device.proofs.device.Answer.number.Statement.{statement}
 use Rattle.device.proofs.device.Answer.number.Tie as tie
 

@@ -1,4 +1,5 @@
 use borrow.Author.Needs.{needs}
+use Rattle.device.specs.Device.{answeredOf}
 use Rattle.device.proofs.device.Device.step.Statement.{statement}
 use Rattle.device.proofs.device.Device.step.Tie as tie
 
@@ -9,6 +10,7 @@ answered-requires : tie.Need-answered-requires
 answered-requires c κs = search needs
 
 returns : tie.Need-returns
+unfolding answeredOf
 returns c = simp (c .answered .ensures, c .before .judged .ensures)
 
 pub step-spec : {M : Type 1} → statement M

@@ -6,13 +6,12 @@ use Rattle.lines.proofs.modem.Modem.read.Tie as tie
 is-requires : tie.Need-is-requires
 is-requires c κs = search needs
 
+chosen-requires : tie.Need-chosen-requires
+chosen-requires c κs = search needs
+
 returns : tie.Need-returns
 unfolding modemRead
-returns c = simp (c .if1 .taken, ← (c .before .is .ensures))
-
-returns-2 : tie.Need-returns-2
-unfolding modemRead
-returns-2 c = simp (c .if1 .left, ← (c .before .is .ensures))
+returns c = simp (c .chosen .ensures, c .before .is .ensures)
 
 pub read-spec : {M : Type 1} → statement M
-read-spec = tie.close (tie.spec is-requires returns returns-2)
+read-spec = tie.close (tie.spec is-requires chosen-requires returns)

@@ -1,20 +1,20 @@
 use borrow.Author.Needs.{needs}
-use Rattle.registers.specs.Touches.{clears}
+use Rattle.registers.specs.Queues.{clears}
 use Rattle.registers.proofs.settings.Settings.clears.Statement.{statement}
 use Rattle.registers.proofs.settings.Settings.clears.Tie as tie
+
+is-requires : tie.Need-is-requires
+is-requires c κs = search needs
 
 bit-requires : tie.Need-bit-requires
 bit-requires c κs = search needs
 
-bit-requires-2 : tie.Need-bit-requires-2
-bit-requires-2 c κs = search needs
-
-bit-requires-3 : tie.Need-bit-requires-3
-bit-requires-3 c κs = search needs
+fifo-changes-requires : tie.Need-fifo-changes-requires
+fifo-changes-requires c κs = search needs
 
 returns : tie.Need-returns
 unfolding clears
-returns c = simp (c .bit3 .ensures, c .before .bit2 .ensures, c .before .before .bit .ensures)
+returns c = simp (c .fifo-changes .ensures, c .before .bit .ensures, c .before .before .is .ensures)
 
 pub clears-spec : {M : Type 1} → statement M
-clears-spec = tie.close (tie.spec bit-requires bit-requires-2 bit-requires-3 returns)
+clears-spec = tie.close (tie.spec is-requires bit-requires fifo-changes-requires returns)

@@ -1,5 +1,5 @@
 use borrow.Author.Needs.{needs}
-use Rattle.registers.specs.Touches.{loads}
+use Rattle.registers.specs.Queues.{loads}
 use Rattle.registers.proofs.settings.Settings.loads.Statement.{statement}
 use Rattle.registers.proofs.settings.Settings.loads.Tie as tie
 

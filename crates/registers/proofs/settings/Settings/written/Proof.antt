@@ -1,231 +1,24 @@
 use borrow.Author.Needs.{needs}
-use Rattle.registers.specs.Writes.{writtenTo}
+use Rattle.registers.specs.Writes.{settingOf}
 use Rattle.registers.proofs.settings.Settings.written.Statement.{statement}
 use Rattle.registers.proofs.settings.Settings.written.Tie as tie
 
-enum-told : tie.Need-enum-told
-enum-told c = search needs
+is-requires : tie.Need-is-requires
+is-requires c κs = search needs
 
-enum-told-2 : tie.Need-enum-told-2
-enum-told-2 c = search needs
-
-ier-written-requires : tie.Need-ier-written-requires
-ier-written-requires c κs = search needs
-
-enum-told-3 : tie.Need-enum-told-3
-enum-told-3 c = search needs
-
-fcr-written-requires : tie.Need-fcr-written-requires
-fcr-written-requires c κs = search needs
-
-enum-told-4 : tie.Need-enum-told-4
-enum-told-4 c = search needs
-
-enum-told-5 : tie.Need-enum-told-5
-enum-told-5 c = search needs
-
-mcr-written-requires : tie.Need-mcr-written-requires
-mcr-written-requires c κs = search needs
-
-enum-told-6 : tie.Need-enum-told-6
-enum-told-6 c = search needs
-
-enum-told-7 : tie.Need-enum-told-7
-enum-told-7 c = search needs
-
-enum-told-8 : tie.Need-enum-told-8
-enum-told-8 c = search needs
-
-enum-told-9 : tie.Need-enum-told-9
-enum-told-9 c = search needs
-
-enum-told-10 : tie.Need-enum-told-10
-enum-told-10 c = search needs
-
-enum-told-11 : tie.Need-enum-told-11
-enum-told-11 c = search needs
-
-enum-told-12 : tie.Need-enum-told-12
-enum-told-12 c = search needs
-
-efcr-written-requires : tie.Need-efcr-written-requires
-efcr-written-requires c κs = search needs
-
-enum-told-13 : tie.Need-enum-told-13
-enum-told-13 c = search needs
-
-enum-told-14 : tie.Need-enum-told-14
-enum-told-14 c = search needs
-
-enum-told-15 : tie.Need-enum-told-15
-enum-told-15 c = search needs
-
-divisor-written-requires : tie.Need-divisor-written-requires
-divisor-written-requires c κs = search needs
-
-enum-told-16 : tie.Need-enum-told-16
-enum-told-16 c = search needs
-
-divisor-written-requires-2 : tie.Need-divisor-written-requires-2
-divisor-written-requires-2 c κs = search needs
-
-enum-told-17 : tie.Need-enum-told-17
-enum-told-17 c = search needs
-
-enum-told-18 : tie.Need-enum-told-18
-enum-told-18 c = search needs
-
-enum-told-19 : tie.Need-enum-told-19
-enum-told-19 c = search needs
-
-enum-told-20 : tie.Need-enum-told-20
-enum-told-20 c = search needs
-
-enum-told-21 : tie.Need-enum-told-21
-enum-told-21 c = search needs
-
-enum-told-22 : tie.Need-enum-told-22
-enum-told-22 c = search needs
+none-requires : tie.Need-none-requires
+none-requires c κs = search needs
 
 returns : tie.Need-returns
-unfolding writtenTo
-returns c = simp (c .enum-told .given .1)
+unfolding settingOf
+returns c = simp (c .none .ensures, c .before .if1 .taken, ← (c .before .before .is .ensures))
+
+taken-requires : tie.Need-taken-requires
+taken-requires c κs = search needs
 
 returns-2 : tie.Need-returns-2
-unfolding writtenTo
-returns-2 c = simp (c .ier-written .ensures, c .before .enum-told2 .given .1)
-
-returns-3 : tie.Need-returns-3
-unfolding writtenTo
-returns-3 c = simp (c .fcr-written .ensures, c .before .enum-told3 .given .1)
-
-returns-4 : tie.Need-returns-4
-unfolding writtenTo
-returns-4 c = simp (c .enum-told4 .given .1)
-
-returns-5 : tie.Need-returns-5
-unfolding writtenTo
-returns-5 c = simp (c .mcr-written .ensures, c .before .enum-told5 .given .1)
-
-returns-6 : tie.Need-returns-6
-unfolding writtenTo
-returns-6 c = simp (c .enum-told6 .given .1)
-
-returns-7 : tie.Need-returns-7
-unfolding writtenTo
-returns-7 c = simp (c .enum-told7 .given .1)
-
-returns-8 : tie.Need-returns-8
-unfolding writtenTo
-returns-8 c = simp (c .enum-told8 .given .1)
-
-returns-9 : tie.Need-returns-9
-unfolding writtenTo
-returns-9 c = simp (c .enum-told9 .given .1)
-
-returns-10 : tie.Need-returns-10
-unfolding writtenTo
-returns-10 c = simp (c .enum-told10 .given .1)
-
-returns-11 : tie.Need-returns-11
-unfolding writtenTo
-returns-11 c = simp (c .enum-told11 .given .1)
-
-returns-12 : tie.Need-returns-12
-unfolding writtenTo
-returns-12 c = simp (c .efcr-written .ensures, c .before .enum-told12 .given .1)
-
-returns-13 : tie.Need-returns-13
-unfolding writtenTo
-returns-13 c = simp (c .enum-told13 .given .1)
-
-returns-14 : tie.Need-returns-14
-unfolding writtenTo
-returns-14 c = simp (c .enum-told14 .given .1)
-
-returns-15 : tie.Need-returns-15
-unfolding writtenTo
-returns-15 c = simp (c .divisor-written .ensures, c .before .enum-told15 .given .1)
-
-returns-16 : tie.Need-returns-16
-unfolding writtenTo
-returns-16 c = simp (c .divisor-written2 .ensures, c .before .enum-told16 .given .1)
-
-returns-17 : tie.Need-returns-17
-unfolding writtenTo
-returns-17 c = simp (c .enum-told17 .given .1)
-
-returns-18 : tie.Need-returns-18
-unfolding writtenTo
-returns-18 c = simp (c .enum-told18 .given .1)
-
-returns-19 : tie.Need-returns-19
-unfolding writtenTo
-returns-19 c = simp (c .enum-told19 .given .1)
-
-returns-20 : tie.Need-returns-20
-unfolding writtenTo
-returns-20 c = simp (c .enum-told20 .given .1)
-
-returns-21 : tie.Need-returns-21
-unfolding writtenTo
-returns-21 c = simp (c .enum-told21 .given .1)
-
-returns-22 : tie.Need-returns-22
-unfolding writtenTo
-returns-22 c = simp (c .enum-told22 .given .1)
+unfolding settingOf
+returns-2 c = simp (c .taken .ensures, c .before .if1 .left, ← (c .before .before .is .ensures))
 
 pub written-spec : {M : Type 1} → statement M
-written-spec =
-    tie.close
-    (tie.spec
-    enum-told
-    enum-told-2
-    ier-written-requires
-    enum-told-3
-    fcr-written-requires
-    enum-told-4
-    enum-told-5
-    mcr-written-requires
-    enum-told-6
-    enum-told-7
-    enum-told-8
-    enum-told-9
-    enum-told-10
-    enum-told-11
-    enum-told-12
-    efcr-written-requires
-    enum-told-13
-    enum-told-14
-    enum-told-15
-    divisor-written-requires
-    enum-told-16
-    divisor-written-requires-2
-    enum-told-17
-    enum-told-18
-    enum-told-19
-    enum-told-20
-    enum-told-21
-    enum-told-22
-    returns
-    returns-2
-    returns-3
-    returns-4
-    returns-5
-    returns-6
-    returns-7
-    returns-8
-    returns-9
-    returns-10
-    returns-11
-    returns-12
-    returns-13
-    returns-14
-    returns-15
-    returns-16
-    returns-17
-    returns-18
-    returns-19
-    returns-20
-    returns-21
-    returns-22)
+written-spec = tie.close (tie.spec is-requires none-requires returns taken-requires returns-2)

@@ -4,7 +4,7 @@ use native.Mathlib.Omega.{arith}
 use mathlib.Core.Path.{_≡_, refl, _∙_}
 use lib.ListN.{length}
 use Rattle.run.specs.Cursor.{WellFormed}
-use Rattle.run.specs.Laws.{well-formed-advanced, over-still, over-silent}
+use Rattle.run.specs.Laws.{well-formed-progress, over-still, over-silent}
 use Rattle.run.proofs.Filling.{Filling, filling-new, filling-more, filling-done, filling-whole}
 use Rattle.run.proofs.cursor.Cursor.fill.Statement.{statement}
 use Rattle.run.proofs.cursor.Cursor.fill.Tie as tie
@@ -25,8 +25,8 @@ same-length c = c .before .before .loop .inv .2
 returns : tie.Need-returns Inv-loop μ-loop
 returns c = filling-done _ _ _ _ _ _ _ (c .before .before .loop .inv .4) _ (omega arith) (over-still _ _ _ (c .if1 .taken)) (over-silent _ _ _ (c .if1 .taken)) (omega arith)
 
-advance-requires : tie.Need-advance-requires Inv-loop μ-loop
-advance-requires c κs = c .before .before .loop .inv .3
+proceed-requires : tie.Need-proceed-requires Inv-loop μ-loop
+proceed-requires c κs = c .before .before .loop .inv .3
 
 put-said-requires : tie.Need-put-said-requires Inv-loop μ-loop
 put-said-requires c κs = (omega (arith, c .before .before .before .before .before .loop .inv .3 .index-in, c .before .before .before .before .before .loop .inv .3 .place-in), omega arith)
@@ -42,8 +42,8 @@ loop-again c = (
   omega arith,
   omega (arith, c .before .before .put-said .ensures .0 .1),
   c .before .before .put-said .kept .0 ∙ c .before .before .before .before .before .before .before .before .loop .inv .2,
-  rw (c .before .before .before .before .before .advance .ensures) (well-formed-advanced _ _ (c .before .before .before .before .before .before .before .before .loop .inv .3)),
-  filling-more _ _ _ _ _ _ _ (c .before .before .before .before .before .before .before .before .loop .inv .4) _ _ _ (c .before .before .before .before .before .advance .ensures) (c .before .before .put-said .ensures .0 .0) (c .before .before .put-said .ensures .1),
+  rw (c .before .before .before .before .before .proceed .ensures) (well-formed-progress _ _ (c .before .before .before .before .before .before .before .before .loop .inv .3)),
+  filling-more _ _ _ _ _ _ _ (c .before .before .before .before .before .before .before .before .loop .inv .4) _ _ _ (c .before .before .before .before .before .proceed .ensures) (c .before .before .put-said .ensures .0 .0) (c .before .before .put-said .ensures .1),
 )
 
 same-length-2 : tie.Need-same-length-2 Inv-loop μ-loop
@@ -61,7 +61,7 @@ fill-spec =
     loop-holds
     same-length
     returns
-    advance-requires
+    proceed-requires
     put-said-requires
     add-i
     loop-less

@@ -1,0 +1,20 @@
+use borrow.Author.Needs.{needs}
+use Rattle.channel.specs.Acts.{quietAct}
+use Rattle.channel.proofs.channel.Channel.quiet.Statement.{statement}
+use Rattle.channel.proofs.channel.Channel.quiet.Tie as tie
+
+quieter-requires : tie.Need-quieter-requires
+quieter-requires c κs = search needs
+
+with-line-requires : tie.Need-with-line-requires
+with-line-requires c κs = search needs
+
+lines-requires : tie.Need-lines-requires
+lines-requires c κs = search needs
+
+returns : tie.Need-returns
+unfolding quietAct
+returns c = simp (c .lines .ensures, c .before .with-line .ensures, c .before .before .quieter .ensures)
+
+pub quiet-spec : {M : Type 1} → statement M
+quiet-spec = tie.close (tie.spec quieter-requires with-line-requires lines-requires returns)

@@ -1,0 +1,29 @@
+use borrow.Author.Needs.{needs}
+use Rattle.channel.specs.Acts.{sendsOf}
+use Rattle.channel.proofs.channel.Channel.sends.Statement.{statement}
+use Rattle.channel.proofs.channel.Channel.sends.Tie as tie
+
+is-requires : tie.Need-is-requires
+is-requires c κs = search needs
+
+adds-requires : tie.Need-adds-requires
+adds-requires c κs = search needs
+
+returns : tie.Need-returns
+unfolding sendsOf
+returns c = simp (c .adds .ensures, c .before .if1 .taken, ← (c .before .before .is .ensures))
+
+clears-requires : tie.Need-clears-requires
+clears-requires c κs = search needs
+
+clears-requires-2 : tie.Need-clears-requires-2
+clears-requires-2 c κs = search needs
+
+returns-2 : tie.Need-returns-2
+unfolding sendsOf
+returns-2 c = simp (c .clears2 .ensures, c .before .clears .ensures, c .before .before .if1 .left, ← (c .before .before .before .is .ensures))
+
+pub sends-spec : {M : Type 1} → statement M
+sends-spec =
+    tie.close
+    (tie.spec is-requires adds-requires returns clears-requires clears-requires-2 returns-2)

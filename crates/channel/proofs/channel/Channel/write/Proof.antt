@@ -1,0 +1,46 @@
+use borrow.Author.Needs.{needs}
+use Rattle.channel.specs.Acts.{writeAct}
+use Rattle.channel.proofs.channel.Channel.write.Statement.{statement}
+use Rattle.channel.proofs.channel.Channel.write.Tie as tie
+
+register-requires : tie.Need-register-requires
+register-requires c κs = search needs
+
+clears-requires : tie.Need-clears-requires
+clears-requires c κs = search needs
+
+written-requires : tie.Need-written-requires
+written-requires c κs = search needs
+
+cleared-requires : tie.Need-cleared-requires
+cleared-requires c κs = search needs
+
+with-line-requires : tie.Need-with-line-requires
+with-line-requires c κs = search needs
+
+clears-requires-2 : tie.Need-clears-requires-2
+clears-requires-2 c κs = search needs
+
+sends-requires : tie.Need-sends-requires
+sends-requires c κs = search needs
+
+resets-device-requires : tie.Need-resets-device-requires
+resets-device-requires c κs = search needs
+
+returns : tie.Need-returns
+unfolding writeAct
+returns c = simp (c .resets-device .ensures, c .before .sends .ensures, c .before .before .clears2 .ensures, c .before .before .before .with-line .ensures, c .before .before .before .before .cleared .ensures, c .before .before .before .before .before .written .ensures, c .before .before .before .before .before .before .clears .ensures, c .before .before .before .before .before .before .before .register .ensures)
+
+pub write-spec : {M : Type 1} → statement M
+write-spec =
+    tie.close
+    (tie.spec
+    register-requires
+    clears-requires
+    written-requires
+    cleared-requires
+    with-line-requires
+    clears-requires-2
+    sends-requires
+    resets-device-requires
+    returns)

@@ -1,0 +1,22 @@
+-- Definitions: the lines of a channel with one of them anew.
+use mathlib.Core.Bool.{Bool}
+use Rattle.lines.specs.declared.receive.Line.{Line}
+use Rattle.lines.specs.declared.transmit.Shift.{Shift}
+use Rattle.lines.specs.declared.modem.Modem.{Modem}
+use Rattle.lines.specs.declared.flags.Flags.{Flags}
+use Rattle.channel.specs.declared.state.State.{State}
+
+unfoldable pub withLine : State → Line → State
+withLine s line = record { line = line; shift = s .shift; modem = s .modem; flags = s .flags; latch = s .latch }
+
+unfoldable pub withShift : State → Shift → State
+withShift s shift = record { line = s .line; shift = shift; modem = s .modem; flags = s .flags; latch = s .latch }
+
+unfoldable pub withModem : State → Modem → State
+withModem s modem = record { line = s .line; shift = s .shift; modem = modem; flags = s .flags; latch = s .latch }
+
+unfoldable pub withFlags : State → Flags → State
+withFlags s flags = record { line = s .line; shift = s .shift; modem = s .modem; flags = flags; latch = s .latch }
+
+unfoldable pub withLatch : State → Bool → State
+withLatch s latch = record { line = s .line; shift = s .shift; modem = s .modem; flags = s .flags; latch = latch }

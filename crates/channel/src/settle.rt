@@ -1,0 +1,110 @@
+// The one step of a channel: the act of an event, then for every kind the latch, the RTS flag and the THR flag.
+use crate::act::Act;
+use crate::channel::Channel;
+use crate::state::State;
+use event::Touch;
+use lines::Moment;
+use lines::Shift;
+use lines::latch_after;
+use lines::rts_asserted;
+use lines::spaces;
+use lines::thr_condition;
+use queue::Moved;
+use registers::Characters;
+use registers::Register;
+use registers::Settings;
+use registers::Spaces;
+ghost use mathlib.Core.Path.{_≡_};
+ghost use Prim.Native.Nat.{_≤_};
+ghost use Rattle.queue.specs.Queue.{Fits};
+ghost use Rattle.channel.specs.Channel.{WellFormed};
+ghost use Rattle.channel.specs.Step.{momentOf, momentAt, settledOf, stepAt, afterStep};
+
+// All that a channel is after an event but for the places of its queues, and whether a stored register was set; the reply,
+// and whether the device is reset.
+pub struct Step {
+    pub sets: bool,
+    pub settings: Settings,
+    pub state: State,
+    pub rx: Moved,
+    pub tx: Moved,
+    pub reply: u16,
+    pub resets: bool,
+}
+
+fn moment(settings: Settings, latch: bool, shift: Shift, free: Spaces) -> Moment
+    ensures { λ r. ⌜ r ≡ momentOf settings latch shift free ⌝ }
+{
+    Moment {
+        rts: rts_asserted(settings, latch, shift.busy(free)),
+        thr: thr_condition(settings, free),
+    }
+}
+
+impl Channel {
+    // RTS and the THR condition.
+    fn moment(self) -> Moment
+        requires { ⌜ WellFormed self ⌝ }
+        ensures { λ r. ⌜ r ≡ momentAt self ⌝ }
+    {
+        let settings = self.settings;
+        let shift = self.state.shift;
+        moment(settings, self.state.latch, shift, spaces(self.tx.count))
+    }
+
+    // What an act comes to with what is settled after it.
+    fn settled(self, act: Act) -> Step
+        requires { ⌜ WellFormed self × (act .tx .count ≤ 64) ⌝ }
+        ensures { λ r. ⌜ r ≡ settledOf self act ⌝ }
+    {
+        let old = self.settings;
+        let setting = act.setting;
+        let register = setting.register;
+        let settings = old.with(setting);
+        let state = act.state;
+        let shift = state.shift;
+        let flags = state.flags;
+        let rx = act.rx;
+        let tx = act.tx;
+        let latch = latch_after(settings, Characters(rx.count), state.latch);
+        let before = self.moment();
+        let now = moment(settings, latch, shift, spaces(tx.count));
+        let flagged = state.with_flags(flags.settled(before, now));
+        Step {
+            sets: !register.is(Register::Closed),
+            settings: settings,
+            state: flagged.with_latch(latch),
+            rx: rx,
+            tx: tx,
+            reply: act.reply,
+            resets: act.resets,
+        }
+    }
+
+    // What an event that names the channel comes to.
+    pub fn step(self, touch: Touch) -> Step
+        requires { ⌜ WellFormed self ⌝ }
+        ensures { λ r. ⌜ r ≡ stepAt self touch ⌝ }
+    {
+        self.settled(self.act(touch))
+    }
+
+    // The channel by value after a step.
+    pub fn after(self, step: Step) -> Channel
+        requires { ⌜ Fits (step .rx) × Fits (step .tx) ⌝ }
+        ensures { λ r. ⌜ r ≡ afterStep self step ⌝ }
+    {
+        let rx = self.rx;
+        let tx = self.tx;
+        let settings = step.settings;
+        let state = step.state;
+        let received = step.rx;
+        let sent = step.tx;
+        Channel {
+            settings: settings,
+            state: state,
+            rx: rx.after(received),
+            tx: tx.after(sent),
+        }
+    }
+}

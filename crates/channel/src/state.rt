@@ -1,0 +1,98 @@
+// The lines of a channel: all that it keeps beside its stored registers and its queues.
+use lines::Flags;
+use lines::Line;
+use lines::Modem;
+use lines::Shift;
+ghost use mathlib.Core.Path.{_≡_};
+ghost use Rattle.channel.specs.State.{withLine, withShift, withModem, withFlags, withLatch};
+
+#[repr(C)]
+pub struct State {
+    pub line: Line,
+    pub shift: Shift,
+    pub modem: Modem,
+    pub flags: Flags,
+    pub latch: bool,
+}
+
+impl State {
+    pub fn with_line(self, line: Line) -> State
+        ensures { λ r. ⌜ r ≡ withLine self line ⌝ }
+    {
+        let shift = self.shift;
+        let modem = self.modem;
+        let flags = self.flags;
+        let latch = self.latch;
+        State {
+            line: line,
+            shift: shift,
+            modem: modem,
+            flags: flags,
+            latch: latch,
+        }
+    }
+
+    pub fn with_shift(self, shift: Shift) -> State
+        ensures { λ r. ⌜ r ≡ withShift self shift ⌝ }
+    {
+        let line = self.line;
+        let modem = self.modem;
+        let flags = self.flags;
+        let latch = self.latch;
+        State {
+            line: line,
+            shift: shift,
+            modem: modem,
+            flags: flags,
+            latch: latch,
+        }
+    }
+
+    pub fn with_modem(self, modem: Modem) -> State
+        ensures { λ r. ⌜ r ≡ withModem self modem ⌝ }
+    {
+        let line = self.line;
+        let shift = self.shift;
+        let flags = self.flags;
+        let latch = self.latch;
+        State {
+            line: line,
+            shift: shift,
+            modem: modem,
+            flags: flags,
+            latch: latch,
+        }
+    }
+
+    pub fn with_flags(self, flags: Flags) -> State
+        ensures { λ r. ⌜ r ≡ withFlags self flags ⌝ }
+    {
+        let line = self.line;
+        let shift = self.shift;
+        let modem = self.modem;
+        let latch = self.latch;
+        State {
+            line: line,
+            shift: shift,
+            modem: modem,
+            flags: flags,
+            latch: latch,
+        }
+    }
+
+    pub fn with_latch(self, latch: bool) -> State
+        ensures { λ r. ⌜ r ≡ withLatch self latch ⌝ }
+    {
+        let line = self.line;
+        let shift = self.shift;
+        let modem = self.modem;
+        let flags = self.flags;
+        State {
+            line: line,
+            shift: shift,
+            modem: modem,
+            flags: flags,
+            latch: latch,
+        }
+    }
+}

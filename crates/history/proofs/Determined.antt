@@ -1,0 +1,360 @@
+-- Laws: every public function's outcome is determined, any two outcomes that its contract allows are equal. `Post` is
+-- the contract as the source states it, over the arguments, the result and what is left of anything lent.
+use contract.Lifetimes.{Lfts}
+use mathlib.Core.Path.{_≡_, sym, _∙_}
+use denote.Ref.{now}
+use Rattle.bits.proofs.chosen.Reads as bits-chosen
+use Rattle.bits.proofs.one_if.Reads as bits-one-if
+use Rattle.bits.proofs.differ.Reads as bits-differ
+use Rattle.bits.proofs.part.Reads as bits-part
+use Rattle.bits.proofs.bit.Reads as bits-bit
+use Rattle.bits.proofs.joined.Reads as bits-joined
+use Rattle.bits.proofs.replaced.Reads as bits-replaced
+use Rattle.bits.proofs.cut.Reads as bits-cut
+use Rattle.queue.proofs.Queue.empty.Reads as queue-empty
+use Rattle.queue.proofs.Queue.stays.Reads as queue-stays
+use Rattle.queue.proofs.Queue.adds.Reads as queue-adds
+use Rattle.queue.proofs.Queue.takes.Reads as queue-takes
+use Rattle.queue.proofs.Queue.clears.Reads as queue-clears
+use Rattle.queue.proofs.Queue.oldest.Reads as queue-oldest
+use Rattle.queue.proofs.Queue.any_mark.Reads as queue-any-mark
+use Rattle.queue.proofs.Queue.after.Reads as queue-after
+use Rattle.event.proofs.event_of.Reads as event-of
+use Rattle.event.proofs.events.Event.judged.Reads as event-judged
+use Rattle.event.proofs.read_at.Reads as event-read-at
+use Rattle.event.proofs.refusal.Refusal.number.Reads as event-refusal-number
+use Rattle.event.proofs.write.Reads as event-write
+use Rattle.registers.proofs.arrival.Gate.passes.Reads as registers-gate-passes
+use Rattle.registers.proofs.settings.Settings.arrived_byte.Reads as registers-settings-arrived-byte
+use Rattle.registers.proofs.settings.Settings.heard.Reads as registers-settings-heard
+use Rattle.registers.proofs.settings.Settings.room.Reads as registers-settings-room
+use Rattle.registers.proofs.levels.Characters.reaches.Reads as registers-characters-reaches
+use Rattle.registers.proofs.levels.Spaces.reaches.Reads as registers-spaces-reaches
+use Rattle.registers.proofs.settings.Settings.receive_level.Reads as registers-settings-receive-level
+use Rattle.registers.proofs.settings.Settings.transmit_level.Reads as registers-settings-transmit-level
+use Rattle.registers.proofs.settings.Settings.halt_level.Reads as registers-settings-halt-level
+use Rattle.registers.proofs.settings.Settings.resume_level.Reads as registers-settings-resume-level
+use Rattle.registers.proofs.settings.Settings.clears.Reads as registers-settings-clears
+use Rattle.registers.proofs.settings.Settings.loads.Reads as registers-settings-loads
+use Rattle.registers.proofs.register.Register.is.Reads as registers-register-is
+use Rattle.registers.proofs.settings.Setting.none.Reads as registers-setting-none
+use Rattle.registers.proofs.settings.Settings.register.Reads as registers-settings-register
+use Rattle.registers.proofs.settings.Settings.written.Reads as registers-settings-written
+use Rattle.registers.proofs.settings.Settings.with.Reads as registers-settings-with
+use Rattle.registers.proofs.resets_device.Reads as registers-resets-device
+use Rattle.lines.proofs.flags.Flags.cleared.Reads as lines-flags-cleared
+use Rattle.lines.proofs.flags.Flags.arrived.Reads as lines-flags-arrived
+use Rattle.lines.proofs.flags.Flags.pins.Reads as lines-flags-pins
+use Rattle.lines.proofs.flags.Flags.settled.Reads as lines-flags-settled
+use Rattle.lines.proofs.interrupt.Interrupt.code.Reads as lines-interrupt-code
+use Rattle.lines.proofs.interrupt.Interrupt.pending.Reads as lines-interrupt-pending
+use Rattle.lines.proofs.interrupt.Interrupt.iir.Reads as lines-interrupt-iir
+use Rattle.lines.proofs.pending.Reads as lines-pending
+use Rattle.lines.proofs.modem.Modem.cts.Reads as lines-modem-cts
+use Rattle.lines.proofs.modem.Modem.cts_off.Reads as lines-modem-cts-off
+use Rattle.lines.proofs.modem.Modem.changed.Reads as lines-modem-changed
+use Rattle.lines.proofs.modem.Modem.read.Reads as lines-modem-read
+use Rattle.lines.proofs.modem.Modem.msr.Reads as lines-modem-msr
+use Rattle.lines.proofs.receive.Line.arrived.Reads as lines-line-arrived
+use Rattle.lines.proofs.receive.Line.read.Reads as lines-line-read
+use Rattle.lines.proofs.receive.Line.cleared.Reads as lines-line-cleared
+use Rattle.lines.proofs.receive.Line.quieter.Reads as lines-line-quieter
+use Rattle.lines.proofs.fate.Reads as lines-fate
+use Rattle.lines.proofs.receive.Status.lsr.Reads as lines-status-lsr
+use Rattle.lines.proofs.latch_after.Reads as lines-latch-after
+use Rattle.lines.proofs.rts_asserted.Reads as lines-rts-asserted
+use Rattle.lines.proofs.spaces.Reads as lines-spaces
+use Rattle.lines.proofs.all_free.Reads as lines-all-free
+use Rattle.lines.proofs.thr_condition.Reads as lines-thr-condition
+use Rattle.lines.proofs.transmit.Shift.loaded.Reads as lines-shift-loaded
+use Rattle.lines.proofs.transmit.Shift.busy.Reads as lines-shift-busy
+use Rattle.lines.proofs.transmit.Shift.leaving.Reads as lines-shift-leaving
+use Rattle.channel.proofs.channel.Channel.act.Reads as channel-act
+use Rattle.channel.proofs.channel.Channel.pending.Reads as channel-pending
+use Rattle.channel.proofs.channel.Channel.rts.Reads as channel-rts
+use Rattle.channel.proofs.channel.Channel.status.Reads as channel-status
+use Rattle.channel.proofs.channel.Channel.step.Reads as channel-step
+use Rattle.channel.proofs.channel.Channel.after.Reads as channel-after
+use Rattle.channel.proofs.state.State.with_line.Reads as channel-state-with-line
+use Rattle.channel.proofs.state.State.with_shift.Reads as channel-state-with-shift
+use Rattle.channel.proofs.state.State.with_modem.Reads as channel-state-with-modem
+use Rattle.channel.proofs.state.State.with_flags.Reads as channel-state-with-flags
+use Rattle.channel.proofs.state.State.with_latch.Reads as channel-state-with-latch
+use Rattle.device.proofs.device.Answer.number.Reads as device-answer-number
+use Rattle.device.proofs.device.Device.irq.Reads as device-irq
+use Rattle.device.proofs.device.Device.step.Reads as device-step
+use Rattle.device.proofs.device.Device.step_numbers.Reads as device-step-numbers
+use Rattle.device.proofs.device.Device.new.Reads as device-new
+use Rattle.device.proofs.device.Device.reset.Reads as device-reset
+use Rattle.run.proofs.cursor.Cursor.new.Reads as run-cursor-new
+use Rattle.run.proofs.cursor.Cursor.fill.Reads as run-cursor-fill
+
+abbrev pub Determined : {A R S : Type 0} → (A → R → S → Type 0) → Type 0
+Determined {A} {R} {S} allowed = (a : A) (r r′ : R) (s s′ : S) → allowed a r s → allowed a r′ s′ → r ≡ r′
+
+-- a contract that is an equation determines its result
+pub by-equation : {A R S : Type 0} {f : A → R} {allowed : A → R → S → Type 0} → ((a : A) (r : R) (s : S) → allowed a r s → r ≡ f a) → Determined allowed
+by-equation equal a r r′ s s′ p q = equal a r s p ∙ sym (equal a r′ s′ q)
+
+pub bits-chosen-determined : Determined (bits-chosen.Post tt)
+bits-chosen-determined = by-equation (λ a r s h. h)
+
+pub bits-one-if-determined : Determined (bits-one-if.Post tt)
+bits-one-if-determined = by-equation (λ a r s h. h)
+
+pub bits-differ-determined : Determined (bits-differ.Post tt)
+bits-differ-determined = by-equation (λ a r s h. h)
+
+pub bits-part-determined : Determined (bits-part.Post tt)
+bits-part-determined = by-equation (λ a r s h. h)
+
+pub bits-bit-determined : Determined (bits-bit.Post tt)
+bits-bit-determined = by-equation (λ a r s h. h)
+
+pub bits-joined-determined : Determined (bits-joined.Post tt)
+bits-joined-determined = by-equation (λ a r s h. h)
+
+pub bits-replaced-determined : Determined (bits-replaced.Post tt)
+bits-replaced-determined = by-equation (λ a r s h. h)
+
+pub bits-cut-determined : Determined (bits-cut.Post tt)
+bits-cut-determined = by-equation (λ a r s h. h)
+
+pub queue-empty-determined : Determined (queue-empty.Post tt)
+queue-empty-determined = by-equation (λ a r s h. h)
+
+pub queue-stays-determined : Determined (queue-stays.Post tt)
+queue-stays-determined = by-equation (λ a r s h. h)
+
+pub queue-adds-determined : Determined (queue-adds.Post tt)
+queue-adds-determined = by-equation (λ a r s h. h)
+
+pub queue-takes-determined : Determined (queue-takes.Post tt)
+queue-takes-determined = by-equation (λ a r s h. h)
+
+pub queue-clears-determined : Determined (queue-clears.Post tt)
+queue-clears-determined = by-equation (λ a r s h. h)
+
+pub queue-oldest-determined : Determined (queue-oldest.Post tt)
+queue-oldest-determined = by-equation (λ a r s h. h)
+
+pub queue-any-mark-determined : Determined (queue-any-mark.Post tt)
+queue-any-mark-determined = by-equation (λ a r s h. h)
+
+pub queue-after-determined : Determined (queue-after.Post tt)
+queue-after-determined = by-equation (λ a r s h. h)
+
+pub event-of-determined : Determined (event-of.Post tt)
+event-of-determined = by-equation (λ a r s h. h)
+
+pub event-judged-determined : Determined (event-judged.Post tt)
+event-judged-determined = by-equation (λ a r s h. h)
+
+-- at any lifetime of the input
+pub event-read-at-determined : (κs : Lfts 1) → Determined (event-read-at.Post κs)
+event-read-at-determined κs = by-equation (λ a r s h. h)
+
+pub event-refusal-number-determined : Determined (event-refusal-number.Post tt)
+event-refusal-number-determined = by-equation (λ a r s h. h)
+
+pub event-write-determined : Determined (event-write.Post tt)
+event-write-determined = by-equation (λ a r s h. h)
+
+pub registers-gate-passes-determined : Determined (registers-gate-passes.Post tt)
+registers-gate-passes-determined = by-equation (λ a r s h. h)
+
+pub registers-settings-arrived-byte-determined : Determined (registers-settings-arrived-byte.Post tt)
+registers-settings-arrived-byte-determined = by-equation (λ a r s h. h)
+
+pub registers-settings-heard-determined : Determined (registers-settings-heard.Post tt)
+registers-settings-heard-determined = by-equation (λ a r s h. h)
+
+pub registers-settings-room-determined : Determined (registers-settings-room.Post tt)
+registers-settings-room-determined = by-equation (λ a r s h. h)
+
+pub registers-characters-reaches-determined : Determined (registers-characters-reaches.Post tt)
+registers-characters-reaches-determined = by-equation (λ a r s h. h)
+
+pub registers-spaces-reaches-determined : Determined (registers-spaces-reaches.Post tt)
+registers-spaces-reaches-determined = by-equation (λ a r s h. h)
+
+pub registers-settings-receive-level-determined : Determined (registers-settings-receive-level.Post tt)
+registers-settings-receive-level-determined = by-equation (λ a r s h. h)
+
+pub registers-settings-transmit-level-determined : Determined (registers-settings-transmit-level.Post tt)
+registers-settings-transmit-level-determined = by-equation (λ a r s h. h)
+
+pub registers-settings-halt-level-determined : Determined (registers-settings-halt-level.Post tt)
+registers-settings-halt-level-determined = by-equation (λ a r s h. h)
+
+pub registers-settings-resume-level-determined : Determined (registers-settings-resume-level.Post tt)
+registers-settings-resume-level-determined = by-equation (λ a r s h. h)
+
+pub registers-settings-clears-determined : Determined (registers-settings-clears.Post tt)
+registers-settings-clears-determined = by-equation (λ a r s h. h)
+
+pub registers-settings-loads-determined : Determined (registers-settings-loads.Post tt)
+registers-settings-loads-determined = by-equation (λ a r s h. h)
+
+pub registers-register-is-determined : Determined (registers-register-is.Post tt)
+registers-register-is-determined = by-equation (λ a r s h. h)
+
+pub registers-setting-none-determined : Determined (registers-setting-none.Post tt)
+registers-setting-none-determined = by-equation (λ a r s h. h)
+
+pub registers-settings-register-determined : Determined (registers-settings-register.Post tt)
+registers-settings-register-determined = by-equation (λ a r s h. h)
+
+pub registers-settings-written-determined : Determined (registers-settings-written.Post tt)
+registers-settings-written-determined = by-equation (λ a r s h. h)
+
+pub registers-settings-with-determined : Determined (registers-settings-with.Post tt)
+registers-settings-with-determined = by-equation (λ a r s h. h)
+
+pub registers-resets-device-determined : Determined (registers-resets-device.Post tt)
+registers-resets-device-determined = by-equation (λ a r s h. h)
+
+pub lines-flags-cleared-determined : Determined (lines-flags-cleared.Post tt)
+lines-flags-cleared-determined = by-equation (λ a r s h. h)
+
+pub lines-flags-arrived-determined : Determined (lines-flags-arrived.Post tt)
+lines-flags-arrived-determined = by-equation (λ a r s h. h)
+
+pub lines-flags-pins-determined : Determined (lines-flags-pins.Post tt)
+lines-flags-pins-determined = by-equation (λ a r s h. h)
+
+pub lines-flags-settled-determined : Determined (lines-flags-settled.Post tt)
+lines-flags-settled-determined = by-equation (λ a r s h. h)
+
+pub lines-interrupt-code-determined : Determined (lines-interrupt-code.Post tt)
+lines-interrupt-code-determined = by-equation (λ a r s h. h)
+
+pub lines-interrupt-pending-determined : Determined (lines-interrupt-pending.Post tt)
+lines-interrupt-pending-determined = by-equation (λ a r s h. h)
+
+pub lines-interrupt-iir-determined : Determined (lines-interrupt-iir.Post tt)
+lines-interrupt-iir-determined = by-equation (λ a r s h. h)
+
+pub lines-pending-determined : Determined (lines-pending.Post tt)
+lines-pending-determined = by-equation (λ a r s h. h)
+
+pub lines-modem-cts-determined : Determined (lines-modem-cts.Post tt)
+lines-modem-cts-determined = by-equation (λ a r s h. h)
+
+pub lines-modem-cts-off-determined : Determined (lines-modem-cts-off.Post tt)
+lines-modem-cts-off-determined = by-equation (λ a r s h. h)
+
+pub lines-modem-changed-determined : Determined (lines-modem-changed.Post tt)
+lines-modem-changed-determined = by-equation (λ a r s h. h)
+
+pub lines-modem-read-determined : Determined (lines-modem-read.Post tt)
+lines-modem-read-determined = by-equation (λ a r s h. h)
+
+pub lines-modem-msr-determined : Determined (lines-modem-msr.Post tt)
+lines-modem-msr-determined = by-equation (λ a r s h. h)
+
+pub lines-line-arrived-determined : Determined (lines-line-arrived.Post tt)
+lines-line-arrived-determined = by-equation (λ a r s h. h)
+
+pub lines-line-read-determined : Determined (lines-line-read.Post tt)
+lines-line-read-determined = by-equation (λ a r s h. h)
+
+pub lines-line-cleared-determined : Determined (lines-line-cleared.Post tt)
+lines-line-cleared-determined = by-equation (λ a r s h. h)
+
+pub lines-line-quieter-determined : Determined (lines-line-quieter.Post tt)
+lines-line-quieter-determined = by-equation (λ a r s h. h)
+
+pub lines-fate-determined : Determined (lines-fate.Post tt)
+lines-fate-determined = by-equation (λ a r s h. h)
+
+pub lines-status-lsr-determined : Determined (lines-status-lsr.Post tt)
+lines-status-lsr-determined = by-equation (λ a r s h. h)
+
+pub lines-latch-after-determined : Determined (lines-latch-after.Post tt)
+lines-latch-after-determined = by-equation (λ a r s h. h)
+
+pub lines-rts-asserted-determined : Determined (lines-rts-asserted.Post tt)
+lines-rts-asserted-determined = by-equation (λ a r s h. h)
+
+pub lines-spaces-determined : Determined (lines-spaces.Post tt)
+lines-spaces-determined = by-equation (λ a r s h. h)
+
+pub lines-all-free-determined : Determined (lines-all-free.Post tt)
+lines-all-free-determined = by-equation (λ a r s h. h)
+
+pub lines-thr-condition-determined : Determined (lines-thr-condition.Post tt)
+lines-thr-condition-determined = by-equation (λ a r s h. h)
+
+pub lines-shift-loaded-determined : Determined (lines-shift-loaded.Post tt)
+lines-shift-loaded-determined = by-equation (λ a r s h. h)
+
+pub lines-shift-busy-determined : Determined (lines-shift-busy.Post tt)
+lines-shift-busy-determined = by-equation (λ a r s h. h)
+
+pub lines-shift-leaving-determined : Determined (lines-shift-leaving.Post tt)
+lines-shift-leaving-determined = by-equation (λ a r s h. h)
+
+pub channel-act-determined : Determined (channel-act.Post tt)
+channel-act-determined = by-equation (λ a r s h. h)
+
+pub channel-pending-determined : Determined (channel-pending.Post tt)
+channel-pending-determined = by-equation (λ a r s h. h)
+
+pub channel-rts-determined : Determined (channel-rts.Post tt)
+channel-rts-determined = by-equation (λ a r s h. h)
+
+pub channel-status-determined : Determined (channel-status.Post tt)
+channel-status-determined = by-equation (λ a r s h. h)
+
+pub channel-step-determined : Determined (channel-step.Post tt)
+channel-step-determined = by-equation (λ a r s h. h)
+
+pub channel-after-determined : Determined (channel-after.Post tt)
+channel-after-determined = by-equation (λ a r s h. h)
+
+pub channel-state-with-line-determined : Determined (channel-state-with-line.Post tt)
+channel-state-with-line-determined = by-equation (λ a r s h. h)
+
+pub channel-state-with-shift-determined : Determined (channel-state-with-shift.Post tt)
+channel-state-with-shift-determined = by-equation (λ a r s h. h)
+
+pub channel-state-with-modem-determined : Determined (channel-state-with-modem.Post tt)
+channel-state-with-modem-determined = by-equation (λ a r s h. h)
+
+pub channel-state-with-flags-determined : Determined (channel-state-with-flags.Post tt)
+channel-state-with-flags-determined = by-equation (λ a r s h. h)
+
+pub channel-state-with-latch-determined : Determined (channel-state-with-latch.Post tt)
+channel-state-with-latch-determined = by-equation (λ a r s h. h)
+
+pub device-answer-number-determined : Determined (device-answer-number.Post tt)
+device-answer-number-determined = by-equation (λ a r s h. h)
+
+pub device-irq-determined : Determined (device-irq.Post tt)
+device-irq-determined = by-equation (λ a r s h. h)
+
+pub device-step-determined : Determined (device-step.Post tt)
+device-step-determined = by-equation (λ a r s h. h)
+
+pub device-step-numbers-determined : Determined (device-step-numbers.Post tt)
+device-step-numbers-determined = by-equation (λ a r s h. h)
+
+pub device-new-determined : Determined (device-new.Post tt)
+device-new-determined = by-equation (λ a r s h. h)
+
+pub device-reset-determined : Determined (device-reset.Post tt)
+device-reset-determined = by-equation (λ a r s h. h)
+
+pub run-cursor-new-determined : Determined (run-cursor-new.Post tt)
+run-cursor-new-determined = by-equation (λ a r s h. h)
+
+-- where something is lent, the result and a part of what is left of it
+abbrev pub DeterminedWith : {A R S T : Type 0} → (S → T) → (A → R → S → Type 0) → Type 0
+DeterminedWith {A} {R} {S} part allowed = (a : A) (r r′ : R) (s s′ : S) → allowed a r s → allowed a r′ s′ → (r ≡ r′) × (part s ≡ part s′)
+
+-- at any lifetimes of the input and the buffer: the result, and what the buffer holds
+pub run-cursor-fill-determined : (κs : Lfts 2) → DeterminedWith (λ s. now (s .1 .1 .0)) (run-cursor-fill.Post κs)
+run-cursor-fill-determined κs a r r′ s s′ p q =
+    let same : r ≡ r′ = p .0 ∙ sym (q .0) in
+    (same, rw (p .1, q .1, same))

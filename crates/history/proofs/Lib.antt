@@ -1,0 +1,2 @@
+-- What is shown of the contracts themselves.
+pub mod Determined

@@ -1,0 +1,20 @@
+-- Definitions: what the stored registers say of the queues.
+use Prim.Native.Nat.{ℕ}
+use mathlib.Core.Bool.{Bool, not, _&&_, _||_}
+use Rattle.bits.specs.Bits.{differs, bitAt}
+use Rattle.registers.specs.declared.register.Register.{Register}
+use Rattle.registers.specs.declared.register.Register.the-variants as register
+use Rattle.registers.specs.declared.settings.Settings.{Settings}
+use Rattle.registers.specs.Windows.{same}
+
+-- "a change of bit 0"
+unfoldable pub fifoChanges : Settings → ℕ → Bool
+fifoChanges s byte = differs (bitAt (s .fcr) 0) (bitAt byte 0)
+
+-- "An FCR write with bit 1 set clears the receive queue, with bit 2 the transmit queue; a change of bit 0 clears both (house)."
+unfoldable pub clears : Settings → Register → ℕ → ℕ → Bool
+clears s written byte bit = same written register.IirFcr && (bitAt byte bit || fifoChanges s byte)
+
+-- "the oldest is loaded if there is one, EFCR 2 is clear, and EFR 7 is clear or CTS is asserted"
+unfoldable pub loads : Settings → Bool → Bool
+loads s cts = not (bitAt (s .efcr) 2) && (not (bitAt (s .efr) 7) || cts)
