@@ -57,14 +57,14 @@ namedStep d at t =
     pick (resetsBy (channelAt d at .settings) t) (record { device = resetDevice d; reply = 0 }) (touchedAt d at t)
 
 -- IRQ look: "1 if either channel has an interrupt pending, else 0"
-unfoldable pub irqAt : Device → Bool
-irqAt d = isPending (pendingAt (d .a)) || isPending (pendingAt (d .b))
+unfoldable pub irqOf : Channel → Channel → Bool
+irqOf a b = isPending (pendingAt a) || isPending (pendingAt b)
 
 -- the step on an event in range
 unfoldable pub stepOf : Device → Event → Stepped
 stepOf d (event.At channel t) = namedStep d (sideNumbered channel) t
 stepOf d event.Reset = record { device = resetDevice d; reply = 0 }
-stepOf d event.IrqLook = record { device = d; reply = oneIf (irqAt d) }
+stepOf d event.IrqLook = record { device = d; reply = oneIf (irqOf (d .a) (d .b)) }
 
 -- "A refused event leaves the device unchanged"
 unfoldable pub answeredOf : Device → Made → Outcome

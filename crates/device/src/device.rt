@@ -10,7 +10,8 @@ use event::Touch;
 use event::event_of;
 ghost use mathlib.Core.Path.{_≡_};
 ghost use Rattle.event.specs.Events.{eventOf, judgedOf};
-ghost use Rattle.device.specs.Device.{WellFormed, givenFor, namedStep, irqAt, stepOf, answeredOf, answerNumber};
+ghost use Rattle.channel.specs.Channel.{WellFormed as ChannelWellFormed};
+ghost use Rattle.device.specs.Device.{WellFormed, givenFor, namedStep, irqOf, stepOf, answeredOf, answerNumber};
 
 #[repr(C)]
 pub struct Device {
@@ -48,6 +49,14 @@ impl Answer {
             Answer::Refused(refusal) => Answer::REFUSED + (refusal.number() as u32),
         }
     }
+}
+
+// Whether either of two channels has an interrupt pending.
+pub fn irq(a: Channel, b: Channel) -> bool
+    requires { ⌜ ChannelWellFormed a × ChannelWellFormed b ⌝ }
+    ensures { λ r. ⌜ r ≡ irqOf a b ⌝ }
+{
+    a.pending().pending() | b.pending().pending()
 }
 
 impl Device {
@@ -90,16 +99,6 @@ impl Device {
         }
     }
 
-    // Whether either channel has an interrupt pending.
-    pub fn irq(self) -> bool
-        requires { ⌜ WellFormed self ⌝ }
-        ensures { λ r. ⌜ r ≡ irqAt self ⌝ }
-    {
-        let a = self.a;
-        let b = self.b;
-        a.pending().pending() | b.pending().pending()
-    }
-
     // The step on an event whose values are in range.
     fn stepped(self, event: Event) -> Stepped
         requires { ⌜ WellFormed self ⌝ }
@@ -113,7 +112,7 @@ impl Device {
             },
             Event::IrqLook => Stepped {
                 device: self,
-                reply: one_if(self.irq()) as u16,
+                reply: one_if(irq(self.a, self.b)) as u16,
             },
         }
     }

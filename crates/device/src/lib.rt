@@ -6,4 +6,5 @@ mod side;
 pub use device::Answer;
 pub use device::Device;
 pub use device::Outcome;
+pub use device::irq;
 pub use side::Side;

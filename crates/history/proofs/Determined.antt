@@ -81,7 +81,7 @@ use Rattle.channel.proofs.state.State.with_modem.Reads as channel-state-with-mo
 use Rattle.channel.proofs.state.State.with_flags.Reads as channel-state-with-flags
 use Rattle.channel.proofs.state.State.with_latch.Reads as channel-state-with-latch
 use Rattle.device.proofs.device.Answer.number.Reads as device-answer-number
-use Rattle.device.proofs.device.Device.irq.Reads as device-irq
+use Rattle.device.proofs.irq.Reads as device-irq
 use Rattle.device.proofs.device.Device.step.Reads as device-step
 use Rattle.device.proofs.device.Device.step_numbers.Reads as device-step-numbers
 use Rattle.device.proofs.device.Device.new.Reads as device-new

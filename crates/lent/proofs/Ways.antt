@@ -40,7 +40,7 @@ abbrev pub Comes : Device → Made → Device → Gave → Type 0
 Comes before m d g = Advanced before m (pick (g .resets) (resetDevice d) d) (g .number)
 
 -- an event that is neither channel's
-pub comes-aside : (d : Device) (m : Made) → wayOf m .aside ≡ true → Comes d m d (gaveAside d (wayOf m))
+pub comes-aside : (d : Device) (m : Made) → wayOf m .aside ≡ true → Comes d m d (gaveAside (d .a) (d .b) (wayOf m))
 unfolding wayOf wayTo wayAside gaveAside answeredOf stepOf answerNumber
 comes-aside d (made.Event (event.At channel t)) h = absurd (let z : _≡_ {A = ℕ} 0 1 = cc in omega arith)
 comes-aside d (made.Event event.Reset) h = (refl, refl)

@@ -12,9 +12,8 @@ use Rattle.event.specs.declared.events.Touch.{Touch}
 use Rattle.event.specs.declared.events.Touch.the-variants as touch
 use Rattle.channel.specs.declared.channel.Channel.{Channel}
 use Rattle.channel.specs.Step.{stepAt}
-use Rattle.device.specs.declared.device.Device.{Device}
 use Rattle.device.specs.declared.device.Answer.the-variants as answer
-use Rattle.device.specs.Device.{irqAt, answerNumber}
+use Rattle.device.specs.Device.{irqOf, answerNumber}
 use Rattle.lent.specs.declared.way.Gave.{Gave}
 use Rattle.lent.specs.declared.way.Way.{Way}
 
@@ -35,8 +34,8 @@ wayOf (made.Event e) = wayFor e
 wayOf (made.Refused r) = wayAside false false (answerNumber (answer.Refused r))
 
 -- what is given for an event that is neither channel's
-unfoldable pub gaveAside : Device → Way → Gave
-gaveAside d w = pick (w .looks) (record { resets = false; number = oneIf (irqAt d) }) (w .gave)
+unfoldable pub gaveAside : Channel → Channel → Way → Gave
+gaveAside a b w = pick (w .looks) (record { resets = false; number = oneIf (irqOf a b) }) (w .gave)
 
 -- and at a channel
 unfoldable pub gaveAt : Channel → Touch → Gave

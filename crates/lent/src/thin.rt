@@ -39,7 +39,7 @@ pub fn advance(lent: &mut Device, kind: u64, x: u64, y: u64, z: u64) -> u32
 {
     let way = way_of(kind, x, y, z);
     let gave = if way.aside {
-        gave_aside(*lent, way)
+        gave_aside((*lent).a, (*lent).b, way)
     } else if way.a {
         advance_channel(&mut (*lent).a, way.touch)
     } else {

@@ -1,14 +1,15 @@
 // Whose event it is, found by value before anything is lent on.
 use bits::one_if;
+use channel::Channel;
 use device::Answer;
-use device::Device;
+use device::irq;
 use event::Event;
 use event::Made;
 use event::Touch;
 use event::event_of;
 ghost use mathlib.Core.Path.{_≡_};
 ghost use Rattle.event.specs.Events.{eventOf};
-ghost use Rattle.device.specs.Device.{WellFormed};
+ghost use Rattle.channel.specs.Channel.{WellFormed};
 ghost use Rattle.lent.specs.Way.{wayTo, wayAside, wayOf, gaveAside};
 
 // What is given for an event: whether the device is to be reset, and the answer's number.
@@ -74,14 +75,14 @@ pub fn way_of(kind: u64, x: u64, y: u64, z: u64) -> Way
 }
 
 // What is given for an event that is neither channel's.
-pub fn gave_aside(device: Device, way: Way) -> Gave
-    requires { ⌜ WellFormed device ⌝ }
-    ensures { λ r. ⌜ r ≡ gaveAside device way ⌝ }
+pub fn gave_aside(a: Channel, b: Channel, way: Way) -> Gave
+    requires { ⌜ WellFormed a × WellFormed b ⌝ }
+    ensures { λ r. ⌜ r ≡ gaveAside a b way ⌝ }
 {
     if way.looks {
         return Gave {
             resets: false,
-            number: one_if(device.irq()) as u32,
+            number: one_if(irq(a, b)) as u32,
         };
     }
     way.gave

@@ -7,7 +7,7 @@
 --     knows                    what lies there is of its type
 --     own, own-field           operands: local i, and field k of it
 --     widens, wider            `.. as u32` of an unsigned operand, and that a number that fits a width fits a wider one
---     copies, stores, replaces, takes, passes      `let t = *p;`, `(*p).f = ..;`, `*p = ..;`, `&mut (*p).f`, `&mut *p`
+--     copies, copies-field, stores, replaces, takes, passes      `let t = *p;`, `let t = (*p).f;`, `(*p).f = ..;`, `*p = ..;`, `&mut (*p).f`, `&mut *p`
 --     holds                    a local is given a known value (`Stack.antt`'s `lets` for any)
 --     calls                    a call, by `Turns`
 --     forks, forgets           a branch; and some locals forgotten, so that its ways meet in one context
@@ -239,6 +239,23 @@ module _ {M : Type 1} (𝓤 : URA M) (H : Heap 𝓤) (A : Atoms 𝓤) (W : Given
       Back : P .Denot → SProp 𝓤
       Back z = wand 𝓤 (Lies P z b (o + d)) (Lies R (f .put x z) b o)
 
+  -- the cell of a field holds the field's machine value, and put back as it is it leaves the record as it was
+  pub field-cell : {R P : RattleType} {d : ℕ} (f : FieldOf R P d) (D : Data P) (x : R .Denot) → f .put x (f .get x) ≡ x → Known D (f .get x) → (b o : ℕ)
+      → Lies R x b o ⊢ H .at fullShare (lone (P .mir)) b (o + d) (D .val (f .get x)) ∗ wand 𝓤 (H .at fullShare (lone (P .mir)) b (o + d) (D .val (f .get x))) (Lies R x b o)
+  field-cell {R} {P} {d} f D x same k b o =
+      qed W (raw (Lies R x b o) ∷ []) ∵ use1 W (raw (Lies P (f .get x) b (o + d)) ⊛ raw (all 𝓤 Back)) (f .cut 𝓤 H A W x b o) $ split ! $
+      use1 W (raw At) (cell-out D (f .get x) b (o + d)) $ framed ! $
+      assume {P = Lies R x b o} ! (raw At) $ use1 W (raw (Lies P (f .get x) b (o + d))) (cell-in D (f .get x) k b (o + d)) $ move ! (1 ∷ []) $
+      use1 W (raw (Back (f .get x))) (allE 𝓤 Back (f .get x)) $ move ! (1 ∷ 0 ∷ []) $
+      use2 W (raw (Lies R (f .put x (f .get x)) b o)) (apply∗ 𝓤 (Lies P (f .get x) b (o + d)) (Lies R (f .put x (f .get x)) b o)) $
+      by ! (subst (λ (z : R .Denot). Lies R (f .put x (f .get x)) b o ⊢ Lies R z b o) same (id⊢ 𝓤 (Lies R (f .put x (f .get x)) b o)))
+    where
+      At : SProp 𝓤
+      At = H .at fullShare (lone (P .mir)) b (o + d) (D .val (f .get x))
+
+      Back : P .Denot → SProp 𝓤
+      Back z = wand 𝓤 (Lies P z b (o + d)) (Lies R (f .put x z) b o)
+
 -- ---- a call that turns the entry i into j and returns r
 pub record Turns {M : Type 1} (𝓤 : URA M) (H : Heap 𝓤) (A : Atoms 𝓤) (C : Calls 𝓤 H) (f : Name) (vs : List Val) (i j : Item 𝓤) (S : RattleType) (r : S .Denot) : Type 1 where
   pub does : ent 𝓤 (mean 𝓤 H A i) (H .⇛ (C f vs (λ v. H .⇛ (sep 𝓤 (mean 𝓤 H A j) (fact 𝓤 (Is S r (v ∷ [])))))))
@@ -281,6 +298,28 @@ module _ {M : Type 1} {𝓤 : URA M} {H : Heap 𝓤} {A : Atoms 𝓤} {K : Type 
 
       At : SProp 𝓤
       At = H .at fullShare (lone (R .mir)) b o (D .val x)
+
+  -- a field of the record is read
+  pub of-field : K → {i : Item 𝓤} {R P : RattleType} {d : ℕ} (f : FieldOf R P d) (D : Data P) {x : R .Denot} {b o : ℕ} → f .put x (f .get x) ≡ x → Known D (f .get x) → {τ : Ty} → τ ≡ lone (P .mir) → Reads K W (i ∷ lies R x b o ∷ Γ) τ b (o + d) (D .val (f .get x))
+  of-field t {i} {R} {P} {d} f D {x} {b} {o} same k {τ} e = subst (λ (σ : Ty). Reads K W (i ∷ lies R x b o ∷ Γ) σ b (o + d) (D .val (f .get x))) (sym e) (record {
+    go = λ Kt h. via 𝓤 (sep 𝓤 At (wand 𝓤 At (Kt (D .val (f .get x)))))
+        (via 𝓤 (sep 𝓤 L Rest) (second 𝓤 H A W i (lies R x b o) Γ)
+        (qed W (raw L ∷ raw Rest ∷ []) ∵ use1 W (raw At ⊛ raw (wand 𝓤 At (Lies 𝓤 H A W R x b o))) (via 𝓤 (Lies 𝓤 H A W R x b o) (unsaid 𝓤 H A W R x b o) (field-cell 𝓤 H A W f D x same k b o)) $ split ! $ framed ! $
+        assume {P = Kt (D .val (f .get x))} ! (raw At) $ use2 W (raw (Lies 𝓤 H A W R x b o)) (apply∗ 𝓤 At (Lies 𝓤 H A W R x b o)) $ use1 W (lies R x b o) (said 𝓤 H A W R x b o) $
+        by ! (via 𝓤 (⋆ 𝓤 H A (i ∷ lies R x b o ∷ Γ)) (second-back 𝓤 H A W i (lies R x b o) Γ) h)))
+        (via 𝓤 (ex 𝓤 (λ (u : Val). sep 𝓤 (H .at fullShare (lone (P .mir)) b (o + d) u) (wand 𝓤 (H .at fullShare (lone (P .mir)) b (o + d) u) (Kt u))))
+        (exI 𝓤 (λ (u : Val). sep 𝓤 (H .at fullShare (lone (P .mir)) b (o + d) u) (wand 𝓤 (H .at fullShare (lone (P .mir)) b (o + d) u) (Kt u))) (D .val (f .get x)))
+        (exI 𝓤 (λ (s : Share). ex 𝓤 (λ (u : Val). sep 𝓤 (H .at s (lone (P .mir)) b (o + d) u) (wand 𝓤 (H .at s (lone (P .mir)) b (o + d) u) (Kt u)))) fullShare));
+  })
+    where
+      L : SProp 𝓤
+      L = mean 𝓤 H A (lies R x b o)
+
+      Rest : SProp 𝓤
+      Rest = sep 𝓤 (mean 𝓤 H A i) (⋆ 𝓤 H A Γ)
+
+      At : SProp 𝓤
+      At = H .at fullShare (lone (P .mir)) b (o + d) (D .val (f .get x))
 
   -- a value is stored in a field of the record
   pub into-field : K → {i : Item 𝓤} {R P : RattleType} {d : ℕ} (f : FieldOf R P d) (D : Data P) {x : R .Denot} {b o : ℕ} (y : P .Denot) → Known D y → {τ : Ty} → τ ≡ lone (P .mir) → Writes K W (i ∷ lies R x b o ∷ Γ) τ b (o + d) (D .val y) (i ∷ lies R (f .put x y) b o ∷ Γ)
@@ -352,6 +391,10 @@ module _ {M : Type 1} {𝓤 : URA M} {H : Heap 𝓤} {A : Atoms 𝓤} {K : Type 
       pub copies : K → {R : RattleType} {b o p i : ℕ} {rest : Body} {τ : Ty} (D : Data R) (x : R .Denot) → Known D x → Has E p → slot ss p ≡ found (vptr b o) → τ ≡ lone (R .mir) → Has E i → at E i .0 ≡ lone (R .mir)
           → Step K W (frame E (fill ss i (D .val x)) ∷ lies R x b o ∷ Γ) (runs C Λ E rest q) (frame E ss ∷ lies R x b o ∷ Γ) (runs C Λ E (seq (assign (place i []) (rvOpd (copy (place p (deref τ ∷ []))))) rest) q)
       copies t D x is has-p at-p e has same = lets t (of-opd t (load t (behind t has-p at-p (stop t)) (all-of t D e))) has (subst (λ (σ : Ty). T (hasTy σ (D .val x)) × WT (D .val x)) (sym same) (typed 𝓤 H A W D x (D .val x) is))
+
+      pub copies-field : K → {R P : RattleType} {d : ℕ} (f : FieldOf R P d) (D : Data P) {x : R .Denot} {b o p k i : ℕ} {rest : Body} {τ : Ty} → f .put x (f .get x) ≡ x → Known D (f .get x) → Has E p → slot ss p ≡ found (vptr b o) → fieldOf τ k ≡ found (lone (P .mir), d) → Has E i → at E i .0 ≡ lone (P .mir)
+          → Step K W (frame E (fill ss i (D .val (f .get x))) ∷ lies R x b o ∷ Γ) (runs C Λ E rest q) (frame E ss ∷ lies R x b o ∷ Γ) (runs C Λ E (seq (assign (place i []) (rvOpd (copy (place p (deref τ ∷ field k ∷ []))))) rest) q)
+      copies-field t f D {x} same is has-p at-p e has type = lets t (of-opd t (load t (behind t has-p at-p (fld t e (stop t))) (of-field t f D same is refl))) has (subst (λ (σ : Ty). T (hasTy σ (D .val (f .get x))) × WT (D .val (f .get x))) (sym type) (typed 𝓤 H A W D (f .get x) (D .val (f .get x)) is))
 
       pub stores : K → {R P : RattleType} {d : ℕ} (f : FieldOf R P d) (D : Data P) (y : P .Denot) → Known D y → {x : R .Denot} {b o p k : ℕ} {rv : RValue} {rest : Body} {τ : Ty} → Rv K W (frame E ss ∷ lies R x b o ∷ Γ) E rv (D .val y) → Has E p → slot ss p ≡ found (vptr b o) → fieldOf τ k ≡ found (lone (P .mir), d)
           → Step K W (frame E ss ∷ lies R (f .put x y) b o ∷ Γ) (runs C Λ E rest q) (frame E ss ∷ lies R x b o ∷ Γ) (runs C Λ E (seq (assign (place p (deref τ ∷ field k ∷ [])) rv) rest) q)

@@ -1,4 +1,4 @@
--- `advance` meets its contract: the device is copied out for `gave_aside`, or one of its channels is lent to `advance_channel`.
+-- `advance` meets its contract: both channels are copied out for `gave_aside`, or one of them is lent to `advance_channel`.
 -- The three ways meet (`meet`) where the device is reset, if that was given, and then the number is returned (`finish`).
 use mathlib.Core.Path.{_≡_, refl, ap, subst}
 use mathlib.Core.Option.{none, some as found}
@@ -17,12 +17,15 @@ use contract.Running.{givenOf, tables, tablesOf}
 use sound.WpLaws.{FmC, fmOf}
 use types.Kit.{Given, Item, Sq, post, atRet, prop, _$_, ! }
 use types.Run.{of-opd, and-then, no-more, skips, exec}
+use denote.Laws.{valss}
+use denote.Struct.Struct.{AreAll}
+use denote.Struct.Declared.{fields}
 use denote.Struct.Laws as LL
 use denote.Triple.Spec.{Meets, tripleOf}
 use denote.Triple.Statement.{Contract, Triple}
 use denote.Triple.Table.{entered, cited}
 use Rattle.walk.proofs.Stack.{Slots, Less, Blocks, env, frame, lets}
-use Rattle.walk.proofs.Lent.{Known, uint, knows, own, own-field, copies, takes, holds, holds-end, replaces-end, calls, calls-end, forks, forgets, ahead, FieldOf, Turns, lies}
+use Rattle.walk.proofs.Lent.{Known, uint, knows, own, own-field, copies, copies-field, takes, holds, holds-end, replaces-end, calls, calls-end, forks, forgets, ahead, FieldOf, Turns, lies}
 use Rattle.walk.proofs.Calls.{by-value, lent, lend}
 use Rattle.walk.proofs.Meets.{Call, Post, now-lent, meets, leaves}
 use Rattle.bits.specs.Choice.{pick}
@@ -37,6 +40,7 @@ use Rattle.device.specs.declared.device.Device.{Device}
 use Rattle.device.specs.Reset.{resetDevice}
 use Rattle.device.specs.Device.{WellFormed}
 use Rattle.device.proofs.device.Device as D
+use Rattle.device.proofs.device.Device.Laws as D′
 use Rattle.device.proofs.device.Device.reset as reset
 use Rattle.device.proofs.device.Device.reset.Symbol as reset-def
 use Rattle.device.proofs.device.Device.reset.Symbol.{name as #reset}
@@ -50,7 +54,7 @@ use Rattle.lent.proofs.way.Gave.Laws as G′
 use Rattle.lent.proofs.way.Way as Y
 use Rattle.lent.proofs.way.Way.Laws as Y′
 use Rattle.lent.proofs.Ways.{Comes, comes-aside, comes-at}
-use Rattle.lent.proofs.Lent.{numbers, touch-data, gave-data, way-data, device-data, a, b}
+use Rattle.lent.proofs.Lent.{numbers, touch-data, gave-data, way-data, channel-data, device-data, a, b}
 use Rattle.lent.proofs.way.way_of as way-of
 use Rattle.lent.proofs.way.way_of.Symbol as way-of-def
 use Rattle.lent.proofs.way.way_of.Symbol.{name as #way-of}
@@ -71,6 +75,11 @@ use Rattle.lent.proofs.thin.advance.Code.Mir as body
 
 number-known : (g : Gave) → Known gave-data g → Known (uint w32) (g .number)
 number-known g is = LL.owed G.the-type G′.the-laws g _ is .1 .0
+
+-- what is known of a device's channels
+abbrev channels : (d : Device) → Known device-data d
+    → AreAll (fields D.the-type) (D.the-type .to d) (valss (fields D.the-type) (LL.spells (D.the-type .parts) D′.the-laws) (D.the-type .to d))
+channels d is = LL.owed D.the-type D′.the-laws d _ is
 
 touch-known : (w : Way) → Known way-data w → Known touch-data (w .touch)
 touch-known w is = LL.owed Y.the-type Y′.the-laws w _ is .1 .1 .0
@@ -152,8 +161,8 @@ module _ {M : Type 1} (𝓤 : URA M) (H : Heap 𝓤) (A : Atoms 𝓤) (W : Given
         calls ! fm device-data (resetDevice d)
         (by-value 𝓤 H A W (𝓣 .C) fm #reset (reset.clauses 𝓤 H A at-mem run) known-reset _ (device-data, tt) (d, tt) (is, tt)
         tt (top 𝓤 (emp 𝓤)) (resetDevice d) (λ r ws. id⊢ 𝓤 _))
-        (λ z. and-then ! (own ! 16 tt refl) (no-more !)) tt refl (λ new.
-        replaces-end ! device-data (resetDevice d) new (of-opd ! (own ! 15 tt refl)) tt refl refl $
+        (λ z. and-then ! (own ! 17 tt refl) (no-more !)) tt refl (λ new.
+        replaces-end ! device-data (resetDevice d) new (of-opd ! (own ! 16 tt refl)) tt refl refl $
         finish (resetDevice d) (ap (λ r. pick r (resetDevice d) d) t) (refl, (refl, tt))))
         (λ t. skips ! $ finish d (ap (λ r. pick r (resetDevice d) d) t) (refl, (refl, tt))))
 
@@ -170,31 +179,34 @@ module _ {M : Type 1} (𝓤 : URA M) (H : Heap 𝓤) (A : Atoms 𝓤) (W : Given
       (and-then ! (own ! 4 tt refl) (and-then ! (own ! 5 tt refl) (no-more !))))) tt refl (λ way-is.
       lets ! (of-opd ! (own-field ! 6 0 tt refl tt tt)) tt (tt, tt) $ forks ! (taken y .aside) tt refl
       -- neither channel's
-      (λ e. copies ! device-data (y .x) is tt refl refl tt refl $
-      calls-end ! fm gave-data (gaveAside (y .x) (taken y))
+      (λ e. copies-field ! a channel-data refl (channels (y .x) is .0) tt refl refl tt refl $
+      copies-field ! b channel-data refl (channels (y .x) is .1 .0) tt refl refl tt refl $
+      calls-end ! fm gave-data (gaveAside (y .x .a) (y .x .b) (taken y))
       (by-value 𝓤 H A W (𝓣 .C) fm #aside (aside.clauses 𝓤 H A at-mem run) known-aside _
-      (device-data, (way-data, tt)) (y .x, (taken y, tt)) (is, (way-is, tt))
-      tt (factI 𝓤 (WellFormed (y .x)) (emp 𝓤) wf) (gaveAside (y .x) (taken y)) (λ r ws. id⊢ 𝓤 _))
-      (λ z. and-then ! (own ! 10 tt refl) (and-then ! (own ! 6 tt refl) (no-more !))) tt refl (λ g-is.
-      meet y bs (y .x) (gaveAside (y .x) (taken y)) g-is (comes-aside (y .x) (event y) e) (refl, (refl, tt))))
+      (channel-data, (channel-data, (way-data, tt))) (y .x .a, (y .x .b, (taken y, tt)))
+      (channels (y .x) is .0, (channels (y .x) is .1 .0, (way-is, tt)))
+      tt (factI 𝓤 (channel.WellFormed (y .x .a) × channel.WellFormed (y .x .b)) (emp 𝓤) (wf .a-in, wf .b-in))
+      (gaveAside (y .x .a) (y .x .b) (taken y)) (λ r ws. id⊢ 𝓤 _))
+      (λ z. and-then ! (own ! 10 tt refl) (and-then ! (own ! 11 tt refl) (and-then ! (own ! 6 tt refl) (no-more !)))) tt refl (λ g-is.
+      meet y bs (y .x) (gaveAside (y .x .a) (y .x .b) (taken y)) g-is (comes-aside (y .x) (event y) e) (refl, (refl, tt))))
       (λ e. lets ! (of-opd ! (own-field ! 6 1 tt refl tt tt)) tt (tt, tt) $ forks ! (taken y .a) tt refl
       -- channel A's
       (λ i. takes ! K.the-row 0 tt refl refl tt (tt, tt) $
       calls-end ! fm gave-data (gaveAt (y .x .a) (taken y .touch))
       (advances a (y .x) (wf .a-in) (taken y .touch) (touch-known (taken y) way-is) (y .b) (y .o))
-      (λ z. and-then ! (own ! 13 tt refl) (and-then ! (own-field ! 6 2 tt refl tt tt) (no-more !))) tt refl (λ g-is.
-      exec ! (𝓣 .C) (𝓣 .Λ) (E bs) (assign (place 9 []) (rvOpd (copy (place 12 []))))
+      (λ z. and-then ! (own ! 14 tt refl) (and-then ! (own-field ! 6 2 tt refl tt tt) (no-more !))) tt refl (λ g-is.
+      exec ! (𝓣 .C) (𝓣 .Λ) (E bs) (assign (place 9 []) (rvOpd (copy (place 13 []))))
       (ahead (𝓣 .C) (𝓣 .Λ) (E bs) body.t-4 (atRet (E bs) (Ends y))) $
-      holds-end ! gave-data _ g-is (of-opd ! (own ! 12 tt refl)) tt refl $
+      holds-end ! gave-data _ g-is (of-opd ! (own ! 13 tt refl)) tt refl $
       meet y bs _ _ g-is (comes-at (y .x) (event y) side.A e (ap (λ s. pick s side.A side.B) i)) (refl, (refl, tt))))
       -- channel B's
       (λ i. takes ! K.the-row 286 tt refl refl tt (tt, tt) $
       calls-end ! fm gave-data (gaveAt (y .x .b) (taken y .touch))
       (advances b (y .x) (wf .b-in) (taken y .touch) (touch-known (taken y) way-is) (y .b) (y .o))
-      (λ z. and-then ! (own ! 14 tt refl) (and-then ! (own-field ! 6 2 tt refl tt tt) (no-more !))) tt refl (λ g-is.
-      exec ! (𝓣 .C) (𝓣 .Λ) (E bs) (assign (place 9 []) (rvOpd (copy (place 12 []))))
+      (λ z. and-then ! (own ! 15 tt refl) (and-then ! (own-field ! 6 2 tt refl tt tt) (no-more !))) tt refl (λ g-is.
+      exec ! (𝓣 .C) (𝓣 .Λ) (E bs) (assign (place 9 []) (rvOpd (copy (place 13 []))))
       (ahead (𝓣 .C) (𝓣 .Λ) (E bs) body.t-4 (atRet (E bs) (Ends y))) $
-      holds-end ! gave-data _ g-is (of-opd ! (own ! 12 tt refl)) tt refl $
+      holds-end ! gave-data _ g-is (of-opd ! (own ! 13 tt refl)) tt refl $
       meet y bs _ _ g-is (comes-at (y .x) (event y) side.B e (ap (λ s. pick s side.A side.B) i)) (refl, (refl, tt))))))))
 
 pub advance-spec : {M : Type 1} → stated.statement M

@@ -9,8 +9,8 @@ irq-requires c κs = search needs
 one-if-requires : tie.Need-one-if-requires
 one-if-requires c κs = search needs
 
-cast-t6 : tie.Need-cast-t6
-cast-t6 c = search needs
+cast-t7 : tie.Need-cast-t7
+cast-t7 c = search needs
 
 returns : tie.Need-returns
 unfolding gaveAside
@@ -21,4 +21,4 @@ unfolding gaveAside
 returns-2 c = simp (c .before .if1 .left)
 
 pub gave-aside-spec : {M : Type 1} → statement M
-gave-aside-spec = tie.close (tie.spec irq-requires one-if-requires cast-t6 returns returns-2)
+gave-aside-spec = tie.close (tie.spec irq-requires one-if-requires cast-t7 returns returns-2)
