@@ -2,14 +2,20 @@
 use crate::line::put_answer;
 use device::Answer;
 use device::Device;
+use event::Event;
 use event::Reading;
+use event::Refusal;
 use event::read_at;
 ghost use mathlib.Core.Path.{_≡_};
+ghost use mathlib.Core.Bool.{false};
 ghost use mathlib.Core.List.{_++_};
 ghost use Prim.Native.Nat.{_+_, _/_, _≤_};
 ghost use lib.ListN.{length, drop};
 ghost use lib.Seq.{sets};
-ghost use Rattle.run.specs.Cursor.{WellFormed, newCursor, endedAt, progressOf, textSaid, textIn, filledBy};
+ghost use Rattle.event.specs.declared.events.Made.the-variants as made;
+ghost use Rattle.event.specs.Events.{judgedOf};
+ghost use Rattle.device.specs.Device.{answeredOf};
+ghost use Rattle.run.specs.Cursor.{WellFormed, newCursor, endedAt, goingOn, progressOf, textSaid, textIn, filledBy};
 
 // The bytes of the longest line.
 const LINE: usize = 16;
@@ -72,6 +78,42 @@ impl Cursor {
         next
     }
 
+    // After an event that ends before a place.
+    fn answered(self, event: Event, next: usize) -> Progress
+        requires { ⌜ WellFormed self ⌝ }
+        ensures { λ r. ⌜ r ≡ goingOn self next (answeredOf (self .device) (judgedOf event)) ⌝ }
+    {
+        let device = self.device;
+        let done = device.step(event);
+        let now = done.device;
+        let answer = done.answer;
+        let cursor = Cursor {
+            device: now,
+            place: next,
+            index: self.index + 1,
+            over: false,
+        };
+        Progress {
+            cursor: cursor,
+            said: Said::Answer(answer),
+        }
+    }
+
+    // After a refused event that ends before a place, of a run that goes on.
+    fn passed_over(self, refusal: Refusal, next: usize) -> Progress
+        requires { ⌜ WellFormed self × (self .over ≡ false) ⌝ }
+        ensures { λ r. ⌜ r ≡ goingOn self next (answeredOf (self .device) (made.Refused refusal)) ⌝ }
+    {
+        let index = self.index + 1;
+        let mut cursor = self;
+        cursor.place = next;
+        cursor.index = index;
+        Progress {
+            cursor: cursor,
+            said: Said::Answer(Answer::Refused(refusal)),
+        }
+    }
+
     // One event read and answered.
     fn proceed(self, input: &[u8]) -> Progress
         requires { ⌜ WellFormed self ⌝ }
@@ -84,33 +126,8 @@ impl Cursor {
             };
         }
         match read_at(input, self.place) {
-            Reading::Event { event, next } => {
-                let device = self.device;
-                let done = device.step(event);
-                let now = done.device;
-                let answer = done.answer;
-                let index = self.index + 1;
-                let cursor = Cursor {
-                    device: now,
-                    place: next,
-                    index: index,
-                    over: false,
-                };
-                Progress {
-                    cursor: cursor,
-                    said: Said::Answer(answer),
-                }
-            }
-            Reading::Refused { refusal, next } => {
-                let index = self.index + 1;
-                let mut cursor = self;
-                cursor.place = next;
-                cursor.index = index;
-                Progress {
-                    cursor: cursor,
-                    said: Said::Answer(Answer::Refused(refusal)),
-                }
-            }
+            Reading::Event { event, next } => self.answered(event, next),
+            Reading::Refused { refusal, next } => self.passed_over(refusal, next),
             Reading::Ended(refusal) => Progress {
                 cursor: self.ended(),
                 said: Said::Answer(Answer::Refused(refusal)),

@@ -1,7 +1,5 @@
-use native.Mathlib.Omega.{arith}
 use mathlib.Core.Path.{sym, _∙_}
 use borrow.Author.Needs.{needs}
-use Rattle.device.specs.Device.{answeredOf}
 use Rattle.run.specs.Cursor.{progressOf}
 use Rattle.run.specs.Laws.{read-judged}
 use Rattle.run.proofs.cursor.Cursor.proceed.Statement.{statement}
@@ -17,19 +15,14 @@ read-at-requires c κs = search needs
 enum-known-event : tie.Need-enum-known-event
 enum-known-event c = search needs
 
-step-requires : tie.Need-step-requires
-step-requires c κs = search needs
-
-add-index : tie.Need-add-index
-add-index c =
-    let ok = c .before .before .before .before .before .before .before .before .before .before .pre in
-    omega (arith, ok .index-in, ok .place-in)
+answered-requires : tie.Need-answered-requires
+answered-requires c κs = search needs
 
 enum-known-refusal : tie.Need-enum-known-refusal
 enum-known-refusal c = search needs
 
-add-index-2 : tie.Need-add-index-2
-add-index-2 c = search needs
+passed-over-requires : tie.Need-passed-over-requires
+passed-over-requires c κs = (c .before .before .before .before .before .before .pre, c .before .before .before .before .if1 .left)
 
 enum-known-refusal-2 : tie.Need-enum-known-refusal-2
 enum-known-refusal-2 c = search needs
@@ -46,12 +39,12 @@ ended-requires-2 c κs = search needs
 returns-2 : tie.Need-returns-2
 unfolding progressOf
 returns-2 c =
-    let read = sym (c .before .before .before .before .before .before .before .read-at .ensures) ∙ c .before .before .before .before .before .event .given .1 in
-    simp (c .before .before .step .ensures, read-judged _ _ read, c .before .before .before .before .before .event .given .1, ← (c .before .before .before .before .before .before .before .read-at .ensures), c .before .before .before .before .before .before .before .before .if1 .left)
+    let read = sym (c .before .before .before .before .read-at .ensures) ∙ c .before .before .event .given .1 in
+    simp (c .answered .ensures, read-judged _ _ read, c .before .before .event .given .1, ← (c .before .before .before .before .read-at .ensures), c .before .before .before .before .before .if1 .left)
 
 returns-3 : tie.Need-returns-3
-unfolding progressOf answeredOf
-returns-3 c = simp (c .before .before .refusal .given .1, ← (c .before .before .before .before .read-at .ensures), c .before .before .before .before .before .if1 .left)
+unfolding progressOf
+returns-3 c = simp (c .passed-over .ensures, c .before .before .refusal .given .1, ← (c .before .before .before .before .read-at .ensures), c .before .before .before .before .before .if1 .left)
 
 returns-4 : tie.Need-returns-4
 unfolding progressOf
@@ -68,10 +61,9 @@ proceed-spec =
     returns
     read-at-requires
     enum-known-event
-    step-requires
-    add-index
+    answered-requires
     enum-known-refusal
-    add-index-2
+    passed-over-requires
     enum-known-refusal-2
     ended-requires
     enum-told
