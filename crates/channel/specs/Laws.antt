@@ -1,21 +1,24 @@
 -- Laws: what a step comes to for the stored registers and the queues, and that a channel's record stays well formed.
 use Prim.Native.Nat.{_≤_}
 use native.Mathlib.Omega.{arith}
-use mathlib.Core.Path.{_≡_, refl, sym}
+use mathlib.Core.Path.{_≡_, refl, ap}
 use mathlib.Core.Bool.{Bool, true, false}
 use borrow.Author.Tests.{not-false}
 use Rattle.bits.specs.Choice.{pick, pick-by}
-use Rattle.queue.specs.Change.{Change, Add, Take, Clear, Stay}
-use Rattle.queue.specs.Queue.{Fits, clearsAll, staysAs, movedBy, afterOf, changed}
-use Rattle.queue.specs.Laws.{well-formed-changed, MarkBelow, marks-below-changed, fits-moved, moved-if}
+use Rattle.queue.specs.declared.Character.{Character}
+use Rattle.queue.specs.declared.Queue.{Queue}
+use Rattle.queue.specs.Change.{Add, Clear, Stay}
+use Rattle.queue.specs.Queue.{Fits, addsTo, clearsAll, staysAs, movedBy, afterOf, changed}
+use Rattle.queue.specs.Laws.{well-formed-changed, MarkBelow, marks-below-changed, fits-moved}
 use Rattle.event.specs.declared.events.Touch.{Touch}
 use Rattle.event.specs.declared.events.Touch.the-variants as touch
 use Rattle.event.specs.Events.{TouchIn}
 use Rattle.registers.specs.declared.register.Register.the-variants as register
 use Rattle.registers.specs.declared.settings.Settings.{Settings}
 use Rattle.registers.specs.Windows.{same, registerAt}
+use Rattle.registers.specs.Writes.{withSetting}
 use Rattle.registers.specs.Arrivals.{doesPass, heardOf, roomOf}
-use Rattle.registers.specs.Queues.{clears, loads}
+use Rattle.registers.specs.Queues.{clears}
 use Rattle.registers.specs.Laws.{same-is, closed-sets-none, room-in}
 use Rattle.lines.specs.Receive.{lineArrived}
 use Rattle.lines.specs.Modem.{ctsAsserted}
@@ -24,88 +27,54 @@ use Rattle.channel.specs.declared.channel.Channel.{Channel}
 use Rattle.channel.specs.declared.state.State.{State}
 use Rattle.channel.specs.State.{withLine, withShift, withModem, withFlags, withLatch}
 use Rattle.channel.specs.Channel.{WellFormed}
-use Rattle.channel.specs.Touches.{settingBy, settingsAfter, arrivedCharacter, receiveChange, sentBy, transmitChange, resetsBy}
-use Rattle.channel.specs.Acts.{linesAct, sendsOf, writeAct, readAct, arrivalAct, slotAct, pinsAct, quietAct, lookAct, actOf}
+use Rattle.channel.specs.Touches.{settingsAfter, receiveChange, transmitChange, resetsBy}
+use Rattle.channel.specs.Acts.{received, sent, actWith, writeAct, readAct, arrivalAct, slotAct, pinsAct, quietAct, lookAct, actOf}
 use Rattle.channel.specs.Step.{settledOf, stepAt, afterStep, touchedBy}
 
--- ---- the act of each kind, by the stored registers alone
-module _ (ch : Channel) where
-  abbrev s : Settings
-  s = ch .settings
+-- ---- what every act has of the stored registers
+act-shared : (ch : Channel) (t : Touch) → actOf ch t ≡ actWith ch t (actOf ch t .state) (actOf ch t .reply)
+unfolding actOf actWith writeAct readAct arrivalAct slotAct pinsAct quietAct lookAct
+act-shared ch (touch.Write address byte) = refl
+act-shared ch (touch.Read address) = refl
+act-shared ch (touch.Arrival byte mark) = refl
+act-shared ch touch.Slot = refl
+act-shared ch (touch.Pins value) = refl
+act-shared ch touch.Quiet = refl
+act-shared ch touch.RtsLook = refl
 
-  abbrev cts : Bool
-  cts = ctsAsserted (ch .state .modem)
+act-tx : (ch : Channel) (t : Touch) → actOf ch t .tx ≡ sent ch t
+unfolding actWith
+act-tx ch t = ap (λ act. act .tx) (act-shared ch t)
 
-  act-setting : (t : Touch) → actOf ch t .setting ≡ settingBy s t
-  unfolding actOf settingBy writeAct readAct arrivalAct slotAct pinsAct quietAct lookAct linesAct
-  act-setting (touch.Write address byte) = refl
-  act-setting (touch.Read address) = refl
-  act-setting (touch.Arrival byte mark) = refl
-  act-setting touch.Slot = refl
-  act-setting (touch.Pins value) = refl
-  act-setting touch.Quiet = refl
-  act-setting touch.RtsLook = refl
+pub act-free : (ch : Channel) (t : Touch) → WellFormed ch → actOf ch t .tx .count ≤ 64
+unfolding afterOf
+act-free ch t ok =
+    rw (act-tx ch t)
+    (well-formed-changed (ch .tx) (transmitChange (ch .settings) (ctsAsserted (ch .state .modem)) t) 64 (ok .tx-in) (omega arith) .count-in)
 
-  act-resets : (t : Touch) → actOf ch t .resets ≡ resetsBy s t
-  unfolding actOf resetsBy writeAct readAct arrivalAct slotAct pinsAct quietAct lookAct linesAct
-  act-resets (touch.Write address byte) = refl
-  act-resets (touch.Read address) = refl
-  act-resets (touch.Arrival byte mark) = refl
-  act-resets touch.Slot = refl
-  act-resets (touch.Pins value) = refl
-  act-resets touch.Quiet = refl
-  act-resets touch.RtsLook = refl
-
-  act-rx : (t : Touch) → actOf ch t .rx ≡ movedBy (ch .rx) (receiveChange s t) (roomOf s)
-  unfolding actOf receiveChange movedBy writeAct readAct arrivalAct slotAct pinsAct quietAct lookAct linesAct
-  act-rx (touch.Write address byte) = sym (moved-if (ch .rx) Clear (roomOf s) (clears s (registerAt s address) byte 1))
-  act-rx (touch.Read address) = sym (moved-if (ch .rx) Take (roomOf s) (same (registerAt s address) register.RhrThr))
-  act-rx (touch.Arrival byte mark) =
-      sym (moved-if (ch .rx) (Add (arrivedCharacter s byte mark)) (roomOf s) (doesPass (heardOf s byte mark .gate)))
-  act-rx touch.Slot = refl
-  act-rx (touch.Pins value) = refl
-  act-rx touch.Quiet = refl
-  act-rx touch.RtsLook = refl
-
-  sent-moved : (thr clear : Bool) (c : Change)
-      → pick thr (movedBy (ch .tx) c 64) (pick clear (clearsAll (ch .tx)) (staysAs (ch .tx)))
-      ≡ movedBy (ch .tx) (pick thr c (pick clear Clear Stay)) 64
-  unfolding movedBy
-  sent-moved true clear c = refl
-  sent-moved false true c = refl
-  sent-moved false false c = refl
-
-  act-tx : (t : Touch) → actOf ch t .tx ≡ movedBy (ch .tx) (transmitChange s cts t) 64
-  unfolding actOf transmitChange sentBy sendsOf movedBy writeAct readAct arrivalAct slotAct pinsAct quietAct lookAct linesAct
-  act-tx (touch.Write address byte) =
-      sent-moved (same (registerAt s address) register.RhrThr) (clears s (registerAt s address) byte 2) (Add (record { byte = byte; mark = 0 }))
-  act-tx (touch.Read address) = refl
-  act-tx (touch.Arrival byte mark) = refl
-  act-tx touch.Slot = sym (moved-if (ch .tx) Take 64 (loads s cts))
-  act-tx (touch.Pins value) = refl
-  act-tx touch.Quiet = refl
-  act-tx touch.RtsLook = refl
-
-  pub act-free : (t : Touch) → WellFormed ch → actOf ch t .tx .count ≤ 64
-  unfolding afterOf
-  act-free t ok =
-      rw (act-tx t) (well-formed-changed (ch .tx) (transmitChange s cts t) 64 (ok .tx-in) (omega arith) .count-in)
+-- a write is told of the transmit queue before it is told what it clears
+pub sent-moved : (q : Queue) (thr clear : Bool) (c : Character)
+    → movedBy q (pick thr (Add c) (pick clear Clear Stay)) 64 ≡ pick thr (addsTo q c 64) (pick clear (clearsAll q) (staysAs q))
+unfolding movedBy
+sent-moved q true clear c = refl
+sent-moved q false true c = refl
+sent-moved q false false c = refl
 
 -- ---- and the step
 module _ (ch : Channel) (t : Touch) where
   pub step-settings : stepAt ch t .settings ≡ settingsAfter (ch .settings) t
-  unfolding stepAt settledOf settingsAfter
-  step-settings = rw (act-setting ch t)
+  unfolding stepAt settledOf settingsAfter actWith
+  step-settings = ap (λ act. withSetting (ch .settings) (act .setting)) (act-shared ch t)
 
   pub step-resets : stepAt ch t .resets ≡ resetsBy (ch .settings) t
-  unfolding stepAt settledOf
-  step-resets = act-resets ch t
+  unfolding stepAt settledOf actWith
+  step-resets = ap (λ act. act .resets) (act-shared ch t)
 
-  pub step-rx : stepAt ch t .rx ≡ movedBy (ch .rx) (receiveChange (ch .settings) t) (roomOf (ch .settings))
-  unfolding stepAt settledOf
-  step-rx = act-rx ch t
+  pub step-rx : stepAt ch t .rx ≡ received ch t
+  unfolding stepAt settledOf actWith
+  step-rx = ap (λ act. act .rx) (act-shared ch t)
 
-  step-tx : stepAt ch t .tx ≡ movedBy (ch .tx) (transmitChange (ch .settings) (cts ch) t) 64
+  step-tx : stepAt ch t .tx ≡ sent ch t
   unfolding stepAt settledOf
   step-tx = act-tx ch t
 
@@ -113,7 +82,7 @@ module _ (ch : Channel) (t : Touch) where
   rx-fits = rw step-rx (fits-moved (ch .rx) (receiveChange (ch .settings) t) (roomOf (ch .settings)))
 
   pub tx-fits : Fits (stepAt ch t .tx)
-  tx-fits = rw step-tx (fits-moved (ch .tx) (transmitChange (ch .settings) (cts ch) t) 64)
+  tx-fits = rw step-tx (fits-moved (ch .tx) (transmitChange (ch .settings) (ctsAsserted (ch .state .modem)) t) 64)
 
   -- where no register is set, each holds what it held
   pub none-set : stepAt ch t .sets ≡ false → stepAt ch t .settings ≡ ch .settings
@@ -130,7 +99,7 @@ module _ (ch : Channel) (t : Touch) where
   unfolding afterStep
   touched-rx = rw step-rx
 
-  touched-tx : touchedBy ch t .tx ≡ changed (ch .tx) (transmitChange (ch .settings) (cts ch) t) 64
+  touched-tx : touchedBy ch t .tx ≡ changed (ch .tx) (transmitChange (ch .settings) (ctsAsserted (ch .state .modem)) t) 64
   unfolding afterStep
   touched-tx = rw step-tx
 
@@ -141,7 +110,7 @@ record LinesIn (lines : State) : Type 0 where
   modem-in : ModemIn (lines .modem)
 
 act-lines-in : (ch : Channel) (t : Touch) → TouchIn t → LinesIn (ch .state) → LinesIn (actOf ch t .state)
-unfolding actOf writeAct readAct arrivalAct slotAct pinsAct quietAct lookAct linesAct withLine withShift withModem withFlags lineArrived
+unfolding actOf actWith writeAct readAct arrivalAct slotAct pinsAct quietAct lookAct withLine withShift withModem withFlags lineArrived
 act-lines-in ch (touch.Write address byte) v h =
     record {
       quiet-in = quiet-cleared (ch .state .line) (clears (ch .settings) (registerAt (ch .settings) address) byte 1) (h .quiet-in);
@@ -179,7 +148,7 @@ well-formed-touched ch t v ok =
       rx-in =
           rw (touched-rx ch t)
           (well-formed-changed (ch .rx) (receiveChange (ch .settings) t) (roomOf (ch .settings)) (ok .rx-in) (room-in (ch .settings)));
-      tx-in = rw (touched-tx ch t) (well-formed-changed (ch .tx) (transmitChange (ch .settings) (cts ch) t) 64 (ok .tx-in) (omega arith));
+      tx-in = rw (touched-tx ch t) (well-formed-changed (ch .tx) (transmitChange (ch .settings) (ctsAsserted (ch .state .modem)) t) 64 (ok .tx-in) (omega arith));
       marks-in =
           rw (touched-rx ch t)
           (marks-below-changed 8 (ch .rx) (receiveChange (ch .settings) t) (roomOf (ch .settings)) (ok .marks-in) (received-mark (ch .settings) t v));

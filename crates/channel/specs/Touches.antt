@@ -45,12 +45,13 @@ receiveChange s (touch.Pins value) = Stay
 receiveChange s touch.Quiet = Stay
 receiveChange s touch.RtsLook = Stay
 
--- a write offers its byte to the transmit queue at THR; FCR: "with bit 2 the transmit queue"
+-- what a write does to the transmit queue: one to THR offers it the byte; FCR: "with bit 2 the transmit queue"
 unfoldable pub sentBy : Settings → Register → ℕ → Change
 sentBy s written byte =
     pick (same written register.RhrThr) (Add (record { byte = byte; mark = 0 })) (pick (clears s written byte 2) Clear Stay)
 
--- what happens to the transmit queue, where CTS is asserted or not
+-- what happens to the transmit queue, where CTS is asserted or not; "Slot: .. then the oldest is loaded", where loading is
+-- allowed
 unfoldable pub transmitChange : Settings → Bool → Touch → Change
 transmitChange s cts (touch.Write address byte) = sentBy s (registerAt s address) byte
 transmitChange s cts (touch.Read address) = Stay

@@ -13,8 +13,10 @@ use registers::Register;
 use registers::Setting;
 use registers::resets_device;
 ghost use mathlib.Core.Path.{_≡_};
+ghost use Rattle.queue.specs.Queue.{movedBy};
 ghost use Rattle.channel.specs.Channel.{WellFormed, shownAt, readOf};
-ghost use Rattle.channel.specs.Acts.{linesAct, sendsOf, writeAct, readAct, arrivalAct, slotAct, pinsAct, quietAct, lookAct, actOf};
+ghost use Rattle.channel.specs.Touches.{sentBy};
+ghost use Rattle.channel.specs.Acts.{linesAct, writeAct, readAct, arrivalAct, slotAct, pinsAct, quietAct, lookAct, actOf};
 
 // How many characters the transmit queue has room for.
 const TRANSMIT_ROOM: u8 = 64;
@@ -49,7 +51,7 @@ impl Channel {
     // What a write does to the transmit queue.
     fn sends(self, register: Register, byte: u8) -> Moved
         requires { ⌜ WellFormed self ⌝ }
-        ensures { λ r. ⌜ r ≡ sendsOf self register byte ⌝ }
+        ensures { λ r. ⌜ r ≡ movedBy (self .tx) (sentBy (self .settings) register byte) 64 ⌝ }
     {
         let settings = self.settings;
         let tx = self.tx;

@@ -18,7 +18,6 @@ use Rattle.event.specs.declared.events.Touch.{Touch}
 use Rattle.event.specs.declared.events.Touch.the-variants as touch
 use Rattle.event.specs.Events.{TouchIn, InRange, numbersOf, eventOf, judgedOf}
 use Rattle.event.specs.Laws.{made-in-range}
-use Rattle.registers.specs.declared.register.Register.{Register}
 use Rattle.registers.specs.declared.register.Register.the-variants as register
 use Rattle.registers.specs.Windows.{registerAt}
 use Rattle.registers.specs.Writes.{settingOf, ifSet, withSetting, resetsDevice}
@@ -27,8 +26,8 @@ use Rattle.registers.specs.Laws.{same-is}
 use Rattle.channel.specs.declared.channel.Channel.{Channel}
 use Rattle.channel.specs.Channel as channel
 use Rattle.channel.specs.State.{withLine, withFlags, withLatch}
-use Rattle.channel.specs.Touches.{resetsBy}
-use Rattle.channel.specs.Acts.{sendsOf, writeTo, writeAct, actOf}
+use Rattle.channel.specs.Touches.{settingBy, receiveChange, sentBy, transmitChange, resetsBy}
+use Rattle.channel.specs.Acts.{actWith, writeAct, actOf}
 use Rattle.channel.specs.Step.{settledOf, stepAt, afterStep, touchedBy}
 use Rattle.channel.specs.Laws.{step-resets, well-formed-touched}
 use Rattle.device.specs.declared.side.Side.{Side}
@@ -45,16 +44,16 @@ both-hold true y h = refl
 both-hold false y h = h
 
 -- a write to IOControl
-io-control-forgotten : (ch : Channel) (written : Register) (byte : ℕ) → written ≡ register.IoControl
-    → (resetOf (afterStep ch (settledOf ch (writeTo ch written byte))) ≡ resetOf ch) × (settledOf ch (writeTo ch written byte) .reply ≡ 0)
-unfolding resetOf settingsReset afterStep settledOf settingOf ifSet withSetting clears sendsOf staysAs clearsAll afterOf withLine withFlags withLatch
-io-control-forgotten ch written byte e = rw e (refl, refl)
+io-control-forgotten : (ch : Channel) (address byte : ℕ) → registerAt (ch .settings) address ≡ register.IoControl
+    → (resetOf (touchedBy ch (touch.Write address byte)) ≡ resetOf ch) × (stepAt ch (touch.Write address byte) .reply ≡ 0)
+unfolding resetOf settingsReset afterStep stepAt settledOf actOf writeAct actWith settingBy receiveChange transmitChange sentBy settingOf ifSet withSetting clears movedBy staysAs clearsAll afterOf withLine withFlags withLatch
+io-control-forgotten ch address byte e = rw e (refl, refl)
 
 pub reset-forgets : (ch : Channel) (t : Touch) → resetsBy (ch .settings) t ≡ true
     → (resetOf (touchedBy ch t) ≡ resetOf ch) × (stepAt ch t .reply ≡ 0)
-unfolding resetsBy resetsDevice stepAt actOf writeAct
+unfolding resetsBy resetsDevice
 reset-forgets ch (touch.Write address byte) h =
-    io-control-forgotten ch (registerAt (ch .settings) address) byte
+    io-control-forgotten ch address byte
     (same-is (registerAt (ch .settings) address) register.IoControl (both-hold _ (bitAt byte 3) h))
 reset-forgets ch (touch.Read address) h = absurd (let z : _≡_ {A = ℕ} 0 1 = cc in omega arith)
 reset-forgets ch (touch.Arrival byte mark) h = absurd (let z : _≡_ {A = ℕ} 0 1 = cc in omega arith)

@@ -9,8 +9,8 @@ use Rattle.bits.specs.Choice.{pick, pick-by}
 use Rattle.bits.specs.Bits.{oneIf, partAt, bitAt}
 use Rattle.bits.specs.Laws.{flag-in}
 use Rattle.queue.specs.declared.Character.{Character}
-use Rattle.queue.specs.Change.{Change, Take}
-use Rattle.queue.specs.Queue.{none, staysAs, addsTo, movedBy, oldestOf}
+use Rattle.queue.specs.Change.{Change, Add, Take, Stay}
+use Rattle.queue.specs.Queue.{none, movedBy, oldestOf}
 use Rattle.queue.specs.List.{items, someMark}
 use Rattle.queue.specs.Laws.{length-items, added-kept, oldest-head, oldest-mark-below, any-mark-items}
 use Rattle.event.specs.declared.events.Event.the-variants as event
@@ -30,7 +30,7 @@ use Rattle.lines.specs.Receive.{fateNumber, lsrOf}
 use Rattle.channel.specs.declared.channel.Channel.{Channel}
 use Rattle.channel.specs.Channel.{WellFormed, shownAt, statusOf, readOf}
 use Rattle.channel.specs.Touches.{arrivedCharacter, receiveChange, resetsBy}
-use Rattle.channel.specs.Acts.{readAct, offeredTo, arrivalAct, actOf}
+use Rattle.channel.specs.Acts.{received, actWith, readAct, arrivalAct, actOf}
 use Rattle.channel.specs.Step.{settledOf, stepAt}
 use Rattle.device.specs.declared.side.Side.{Side}
 use Rattle.device.specs.declared.side.Side.the-variants as side
@@ -77,7 +77,7 @@ side-number side.B = refl
 
 channel-read : (ch : Channel) (address : ℕ) (r : Register) → registerAt (ch .settings) address ≡ r
     → stepAt ch (touch.Read address) .reply ≡ readOf ch r (shownAt ch r)
-unfolding stepAt settledOf actOf readAct
+unfolding stepAt settledOf actOf actWith readAct
 channel-read ch address r named = rw named
 
 module _ (d : Device) (w : Side) where
@@ -89,19 +89,19 @@ module _ (d : Device) (w : Side) where
   -- an arrival's reply, where the queue keeps it or not
   pub arrival-reply : (byte mark : ℕ)
       → stepOf d (event.At (number w) (touch.Arrival byte mark)) .reply
-      ≡ fateNumber (heardOf (channelAt d w .settings) byte mark .gate) (offeredTo (channelAt d w) byte mark .kept)
-  unfolding stepOf namedStep touchedAt resetsBy stepAt settledOf actOf arrivalAct
+      ≡ fateNumber (heardOf (channelAt d w .settings) byte mark .gate) (received (channelAt d w) (touch.Arrival byte mark) .kept)
+  unfolding stepOf namedStep touchedAt resetsBy stepAt settledOf actOf actWith arrivalAct
   arrival-reply byte mark = rw (side-number w)
 
 -- what passes is kept exactly if fewer than room are queued
 pub fate-kept : (ch : Channel) (byte mark : ℕ)
-    → fateNumber (heardOf (ch .settings) byte mark .gate) (offeredTo ch byte mark .kept)
+    → fateNumber (heardOf (ch .settings) byte mark .gate) (received ch (touch.Arrival byte mark) .kept)
     ≡ fateNumber (heardOf (ch .settings) byte mark .gate) (ltb (length (items (ch .rx))) (roomOf (ch .settings)))
-unfolding fateNumber doesPass movedBy
+unfolding fateNumber doesPass movedBy receiveChange
 fate-kept ch byte mark = go (heardOf (ch .settings) byte mark .gate) (arrivedCharacter (ch .settings) byte mark)
   where
     go : (g : Gate) (c : Character)
-        → fateNumber g (pick (doesPass g) (addsTo (ch .rx) c (roomOf (ch .settings))) (staysAs (ch .rx)) .kept)
+        → fateNumber g (movedBy (ch .rx) (pick (doesPass g) (Add c) Stay) (roomOf (ch .settings)) .kept)
         ≡ fateNumber g (ltb (length (items (ch .rx))) (roomOf (ch .settings)))
     go gate.Passes c = ap (fateNumber gate.Passes) (added-kept (ch .rx) c (roomOf (ch .settings)))
     go gate.Off c = refl

@@ -4,7 +4,7 @@ use mathlib.Core.Path.{_≡_, refl}
 use mathlib.Core.List.{List, [], _∷_, map}
 use lib.ListN.{replicate}
 use Rattle.bits.specs.Bits.{oneIf, differs, bitAt, partAt, replacedAt, cutTo}
-use Rattle.queue.specs.Queue.{emptyQueue, oldestOf, markedFrom, anyMarkOf, addsTo, takesFrom, clearsAll, staysAs, afterOf}
+use Rattle.queue.specs.Queue.{emptyQueue, oldestOf, markedFrom, anyMarkOf, addsTo, takesFrom, clearsAll, staysAs, movedBy, afterOf}
 use Rattle.event.specs.declared.events.Event.{Event}
 use Rattle.event.specs.declared.events.Event.the-variants as event
 use Rattle.event.specs.declared.events.Touch.the-variants as touch
@@ -25,8 +25,8 @@ use Rattle.lines.specs.Interrupts.{codeOf, lineStatusPending, timeoutPending, r
 use Rattle.lines.specs.Flags.{flagsCleared, flagsArrived, thrSettled, flagsSettled}
 use Rattle.channel.specs.State.{withLine, withModem, withFlags, withLatch}
 use Rattle.channel.specs.Channel.{pendingAt, shownAt, statusOf, readOf}
-use Rattle.channel.specs.Touches.{resetsBy}
-use Rattle.channel.specs.Acts.{sendsOf, writeAct, readAct, arrivalAct, actOf}
+use Rattle.channel.specs.Touches.{settingBy, receiveChange, sentBy, transmitChange, resetsBy}
+use Rattle.channel.specs.Acts.{actWith, writeAct, readAct, arrivalAct, actOf}
 use Rattle.channel.specs.Step.{momentOf, momentAt, settledOf, stepAt, afterStep}
 use Rattle.device.specs.declared.device.Device.{Device}
 use Rattle.device.specs.Reset.{settingsReset, linesReset, resetOf, blankSettings, blankChannel, resetDevice, newDevice}
@@ -103,5 +103,5 @@ table =
     ∷ []
 
 pub cases-hold : map (λ row. row .given) table ≡ map (λ row. row .expected) table
-unfolding table oneIf differs bitAt partAt replacedAt cutTo emptyQueue oldestOf markedFrom anyMarkOf addsTo takesFrom clearsAll staysAs afterOf secondAt numberAt generalAt enhancedAt registerAt tcrOpen guardOpen ierWritten fcrWritten efcrWritten takenBy noSetting settingOf ifSet withSetting resetsDevice modeOf arrivedByte equalsXoff2 doesPass unlessOff receiverSet heardPlain heardNinth heardAddress heardOf roomOf fours transmitLevel fifoChanges clears lineArrived lineRead lineCleared fateNumber lsrOf spacesOf allFree isBusy thrCondition latchAfter rtsOf modemRead codeOf lineStatusPending timeoutPending receivePending transmitPending modemPending specialPending flowPending pendingOf iirOf flagsCleared flagsArrived thrSettled flagsSettled withLine withModem withFlags withLatch pendingAt shownAt statusOf readOf resetsBy sendsOf writeAct readAct arrivalAct actOf momentOf momentAt settledOf stepAt afterStep settingsReset linesReset resetOf blankSettings blankChannel resetDevice newDevice sideNumbered touchedAt namedStep stepOf
+unfolding table oneIf differs bitAt partAt replacedAt cutTo emptyQueue oldestOf markedFrom anyMarkOf addsTo takesFrom clearsAll staysAs movedBy afterOf secondAt numberAt generalAt enhancedAt registerAt tcrOpen guardOpen ierWritten fcrWritten efcrWritten takenBy noSetting settingOf ifSet withSetting resetsDevice modeOf arrivedByte equalsXoff2 doesPass unlessOff receiverSet heardPlain heardNinth heardAddress heardOf roomOf fours transmitLevel fifoChanges clears lineArrived lineRead lineCleared fateNumber lsrOf spacesOf allFree isBusy thrCondition latchAfter rtsOf modemRead codeOf lineStatusPending timeoutPending receivePending transmitPending modemPending specialPending flowPending pendingOf iirOf flagsCleared flagsArrived thrSettled flagsSettled withLine withModem withFlags withLatch pendingAt shownAt statusOf readOf settingBy receiveChange sentBy transmitChange resetsBy actWith writeAct readAct arrivalAct actOf momentOf momentAt settledOf stepAt afterStep settingsReset linesReset resetOf blankSettings blankChannel resetDevice newDevice sideNumbered touchedAt namedStep stepOf
 cases-hold = refl

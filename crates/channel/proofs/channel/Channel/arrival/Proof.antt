@@ -1,6 +1,9 @@
 use Rattle.registers.specs.Laws.{room-in}
 use borrow.Author.Needs.{needs}
-use Rattle.channel.specs.Acts.{arrivalAct}
+use Rattle.queue.specs.Queue.{movedBy}
+use Rattle.queue.specs.Laws.{moved-if}
+use Rattle.channel.specs.Touches.{settingBy, receiveChange, transmitChange, resetsBy}
+use Rattle.channel.specs.Acts.{actWith, arrivalAct}
 use Rattle.channel.proofs.channel.Channel.arrival.Statement.{statement}
 use Rattle.channel.proofs.channel.Channel.arrival.Tie as tie
 
@@ -38,8 +41,8 @@ fate-requires : tie.Need-fate-requires
 fate-requires c κs = search needs
 
 returns : tie.Need-returns
-unfolding arrivalAct
-returns c = simp (c .fate .ensures, c .before .stays .ensures, c .before .before .with-flags .ensures, c .before .before .before .arrived2 .ensures, c .before .before .before .before .with-line .ensures, c .before .before .before .before .before .arrived .ensures, c .before .before .before .before .before .before .adds .ensures, c .before .before .before .before .before .before .before .room .ensures, c .before .before .before .before .before .before .before .before .passes .ensures, c .before .before .before .before .before .before .before .before .before .arrived-byte .ensures, c .before .before .before .before .before .before .before .before .before .before .before .heard .ensures)
+unfolding arrivalAct actWith settingBy receiveChange transmitChange resetsBy movedBy
+returns c = simp (c .fate .ensures, c .before .stays .ensures, c .before .before .with-flags .ensures, c .before .before .before .arrived2 .ensures, c .before .before .before .before .with-line .ensures, c .before .before .before .before .before .arrived .ensures, c .before .before .before .before .before .before .adds .ensures, c .before .before .before .before .before .before .before .room .ensures, c .before .before .before .before .before .before .before .before .passes .ensures, c .before .before .before .before .before .before .before .before .before .arrived-byte .ensures, c .before .before .before .before .before .before .before .before .before .before .before .heard .ensures, moved-if)
 
 pub arrival-spec : {M : Type 1} → statement M
 arrival-spec =

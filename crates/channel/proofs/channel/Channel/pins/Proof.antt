@@ -1,5 +1,7 @@
 use borrow.Author.Needs.{needs}
-use Rattle.channel.specs.Acts.{pinsAct}
+use Rattle.queue.specs.Queue.{movedBy}
+use Rattle.channel.specs.Touches.{settingBy, receiveChange, transmitChange, resetsBy}
+use Rattle.channel.specs.Acts.{linesAct, actWith, pinsAct}
 use Rattle.channel.proofs.channel.Channel.pins.Statement.{statement}
 use Rattle.channel.proofs.channel.Channel.pins.Tie as tie
 
@@ -22,7 +24,7 @@ lines-requires : tie.Need-lines-requires
 lines-requires c κs = search needs
 
 returns : tie.Need-returns
-unfolding pinsAct
+unfolding pinsAct linesAct actWith settingBy receiveChange transmitChange resetsBy movedBy
 returns c = simp (c .lines .ensures, c .before .with-flags .ensures, c .before .before .pins .ensures, c .before .before .before .cts-off .ensures, c .before .before .before .before .with-modem .ensures, c .before .before .before .before .before .changed .ensures)
 
 pub pins-spec : {M : Type 1} → statement M

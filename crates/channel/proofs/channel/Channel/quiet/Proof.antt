@@ -1,5 +1,7 @@
 use borrow.Author.Needs.{needs}
-use Rattle.channel.specs.Acts.{quietAct}
+use Rattle.queue.specs.Queue.{movedBy}
+use Rattle.channel.specs.Touches.{settingBy, receiveChange, transmitChange, resetsBy}
+use Rattle.channel.specs.Acts.{linesAct, actWith, quietAct}
 use Rattle.channel.proofs.channel.Channel.quiet.Statement.{statement}
 use Rattle.channel.proofs.channel.Channel.quiet.Tie as tie
 
@@ -13,7 +15,7 @@ lines-requires : tie.Need-lines-requires
 lines-requires c κs = search needs
 
 returns : tie.Need-returns
-unfolding quietAct
+unfolding quietAct linesAct actWith settingBy receiveChange transmitChange resetsBy movedBy
 returns c = simp (c .lines .ensures, c .before .with-line .ensures, c .before .before .quieter .ensures)
 
 pub quiet-spec : {M : Type 1} → statement M

@@ -1,5 +1,8 @@
 use borrow.Author.Needs.{needs}
-use Rattle.channel.specs.Acts.{readAct}
+use Rattle.queue.specs.Queue.{movedBy}
+use Rattle.queue.specs.Laws.{moved-if}
+use Rattle.channel.specs.Touches.{settingBy, receiveChange, transmitChange, resetsBy}
+use Rattle.channel.specs.Acts.{actWith, readAct}
 use Rattle.channel.proofs.channel.Channel.read.Statement.{statement}
 use Rattle.channel.proofs.channel.Channel.read.Tie as tie
 
@@ -46,8 +49,8 @@ cast-t24 : tie.Need-cast-t24
 cast-t24 c = search needs
 
 returns : tie.Need-returns
-unfolding readAct
-returns c = simp (c .gives .ensures, c .before .stays .ensures, c .before .before .takes .ensures, c .before .before .before .is .ensures, c .before .before .before .before .with-flags .ensures, c .before .before .before .before .before .cleared .ensures, c .before .before .before .before .before .before .none .ensures, c .before .before .before .before .before .before .before .with-modem .ensures, c .before .before .before .before .before .before .before .before .read2 .ensures, c .before .before .before .before .before .before .before .before .before .with-line .ensures, c .before .before .before .before .before .before .before .before .before .before .read .ensures, c .before .before .before .before .before .before .before .before .before .before .before .shown .ensures, c .before .before .before .before .before .before .before .before .before .before .before .before .register .ensures)
+unfolding readAct actWith settingBy receiveChange transmitChange resetsBy movedBy
+returns c = simp (c .gives .ensures, c .before .stays .ensures, c .before .before .takes .ensures, c .before .before .before .is .ensures, c .before .before .before .before .with-flags .ensures, c .before .before .before .before .before .cleared .ensures, c .before .before .before .before .before .before .none .ensures, c .before .before .before .before .before .before .before .with-modem .ensures, c .before .before .before .before .before .before .before .before .read2 .ensures, c .before .before .before .before .before .before .before .before .before .with-line .ensures, c .before .before .before .before .before .before .before .before .before .before .read .ensures, c .before .before .before .before .before .before .before .before .before .before .before .shown .ensures, c .before .before .before .before .before .before .before .before .before .before .before .before .register .ensures, moved-if)
 
 pub read-spec : {M : Type 1} → statement M
 read-spec =

@@ -1,5 +1,7 @@
 use borrow.Author.Needs.{needs}
-use Rattle.channel.specs.Acts.{lookAct}
+use Rattle.queue.specs.Queue.{movedBy}
+use Rattle.channel.specs.Touches.{settingBy, receiveChange, transmitChange, resetsBy}
+use Rattle.channel.specs.Acts.{linesAct, actWith, lookAct}
 use Rattle.channel.proofs.channel.Channel.rts_look.Statement.{statement}
 use Rattle.channel.proofs.channel.Channel.rts_look.Tie as tie
 
@@ -16,7 +18,7 @@ lines-requires : tie.Need-lines-requires
 lines-requires c κs = search needs
 
 returns : tie.Need-returns
-unfolding lookAct
+unfolding lookAct linesAct actWith settingBy receiveChange transmitChange resetsBy movedBy
 returns c = simp (c .lines .ensures, c .before .one-if .ensures, c .before .before .rts .ensures)
 
 pub rts-look-spec : {M : Type 1} → statement M

@@ -1,5 +1,6 @@
 use borrow.Author.Needs.{needs}
-use Rattle.channel.specs.Acts.{sendsOf}
+use Rattle.channel.specs.Touches.{sentBy}
+use Rattle.channel.specs.Laws.{sent-moved}
 use Rattle.channel.proofs.channel.Channel.sends.Statement.{statement}
 use Rattle.channel.proofs.channel.Channel.sends.Tie as tie
 
@@ -10,8 +11,8 @@ adds-requires : tie.Need-adds-requires
 adds-requires c κs = search needs
 
 returns : tie.Need-returns
-unfolding sendsOf
-returns c = simp (c .adds .ensures, c .before .if1 .taken, ← (c .before .before .is .ensures))
+unfolding sentBy
+returns c = simp (sent-moved, c .adds .ensures, c .before .if1 .taken, ← (c .before .before .is .ensures))
 
 clears-requires : tie.Need-clears-requires
 clears-requires c κs = search needs
@@ -20,8 +21,8 @@ clears-requires-2 : tie.Need-clears-requires-2
 clears-requires-2 c κs = search needs
 
 returns-2 : tie.Need-returns-2
-unfolding sendsOf
-returns-2 c = simp (c .clears2 .ensures, c .before .clears .ensures, c .before .before .if1 .left, ← (c .before .before .before .is .ensures))
+unfolding sentBy
+returns-2 c = simp (sent-moved, c .clears2 .ensures, c .before .clears .ensures, c .before .before .if1 .left, ← (c .before .before .before .is .ensures))
 
 pub sends-spec : {M : Type 1} → statement M
 sends-spec =

@@ -1,5 +1,8 @@
 use borrow.Author.Needs.{needs}
-use Rattle.channel.specs.Acts.{slotAct}
+use Rattle.queue.specs.Queue.{movedBy}
+use Rattle.queue.specs.Laws.{moved-if}
+use Rattle.channel.specs.Touches.{settingBy, receiveChange, transmitChange, resetsBy}
+use Rattle.channel.specs.Acts.{actWith, slotAct}
 use Rattle.channel.proofs.channel.Channel.slot.Statement.{statement}
 use Rattle.channel.proofs.channel.Channel.slot.Tie as tie
 
@@ -31,8 +34,8 @@ leaving-requires : tie.Need-leaving-requires
 leaving-requires c κs = search needs
 
 returns : tie.Need-returns
-unfolding slotAct
-returns c = simp (c .leaving .ensures, c .before .takes .ensures, c .before .before .stays .ensures, c .before .before .before .with-shift .ensures, c .before .before .before .before .loaded .ensures, c .before .before .before .before .before .before .none .ensures, c .before .before .before .before .before .before .before .loads .ensures, c .before .before .before .before .before .before .before .before .cts .ensures, c .before .before .before .before .before .before .before .before .before .oldest .ensures)
+unfolding slotAct actWith settingBy receiveChange transmitChange resetsBy movedBy
+returns c = simp (c .leaving .ensures, c .before .takes .ensures, c .before .before .stays .ensures, c .before .before .before .with-shift .ensures, c .before .before .before .before .loaded .ensures, c .before .before .before .before .before .before .none .ensures, c .before .before .before .before .before .before .before .loads .ensures, c .before .before .before .before .before .before .before .before .cts .ensures, c .before .before .before .before .before .before .before .before .before .oldest .ensures, moved-if)
 
 pub slot-spec : {M : Type 1} → statement M
 slot-spec =

@@ -1,5 +1,8 @@
 use borrow.Author.Needs.{needs}
-use Rattle.channel.specs.Acts.{writeAct}
+use Rattle.queue.specs.Queue.{movedBy}
+use Rattle.queue.specs.Laws.{moved-if}
+use Rattle.channel.specs.Touches.{settingBy, receiveChange, transmitChange, resetsBy}
+use Rattle.channel.specs.Acts.{actWith, writeAct}
 use Rattle.channel.proofs.channel.Channel.write.Statement.{statement}
 use Rattle.channel.proofs.channel.Channel.write.Tie as tie
 
@@ -28,8 +31,8 @@ resets-device-requires : tie.Need-resets-device-requires
 resets-device-requires c κs = search needs
 
 returns : tie.Need-returns
-unfolding writeAct
-returns c = simp (c .resets-device .ensures, c .before .sends .ensures, c .before .before .clears2 .ensures, c .before .before .before .with-line .ensures, c .before .before .before .before .cleared .ensures, c .before .before .before .before .before .written .ensures, c .before .before .before .before .before .before .clears .ensures, c .before .before .before .before .before .before .before .register .ensures)
+unfolding writeAct actWith settingBy receiveChange transmitChange resetsBy movedBy
+returns c = simp (c .resets-device .ensures, c .before .sends .ensures, c .before .before .clears2 .ensures, c .before .before .before .with-line .ensures, c .before .before .before .before .cleared .ensures, c .before .before .before .before .before .written .ensures, c .before .before .before .before .before .before .clears .ensures, c .before .before .before .before .before .before .before .register .ensures, moved-if)
 
 pub write-spec : {M : Type 1} → statement M
 write-spec =
