@@ -1,7 +1,4 @@
--- What the contracts of `channel` cite, in the order of an event, and the laws of it.
+-- What the contracts of `channel` cite: the record, what is seen of it, and what settles after an act.
 pub mod State
 pub mod Channel
-pub mod Touches
-pub mod Acts
-pub mod Step
-pub mod Laws
+pub mod Settle

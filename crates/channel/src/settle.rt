@@ -1,8 +1,6 @@
-// The one step of a channel: the act of an event, then for every kind the latch, the RTS flag and the THR flag.
-use crate::act::Act;
+// What settles after the act of an event, whatever its kind: the latch, the RTS flag and the THR flag.
 use crate::channel::Channel;
 use crate::state::State;
-use event::Touch;
 use lines::Moment;
 use lines::Shift;
 use lines::latch_after;
@@ -12,13 +10,24 @@ use lines::thr_condition;
 use queue::Moved;
 use registers::Characters;
 use registers::Register;
+use registers::Setting;
 use registers::Settings;
 use registers::Spaces;
 ghost use mathlib.Core.Path.{_≡_};
 ghost use Prim.Native.Nat.{_≤_};
 ghost use Rattle.queue.specs.Queue.{Fits};
 ghost use Rattle.channel.specs.Channel.{WellFormed};
-ghost use Rattle.channel.specs.Step.{momentOf, momentAt, settledOf, stepAt, afterStep};
+ghost use Rattle.channel.specs.Settle.{momentOf, momentAt, settledOf, afterStep};
+
+// The register that is set, the lines and what becomes of each queue; the reply, and whether the device is reset.
+pub struct Act {
+    pub setting: Setting,
+    pub state: State,
+    pub rx: Moved,
+    pub tx: Moved,
+    pub reply: u16,
+    pub resets: bool,
+}
 
 // All that a channel is after an event but for the places of its queues, and whether a stored register was set; the reply,
 // and whether the device is reset.
@@ -53,7 +62,7 @@ impl Channel {
     }
 
     // What an act comes to with what is settled after it.
-    fn settled(self, act: Act) -> Step
+    pub fn settled(self, act: Act) -> Step
         requires { ⌜ WellFormed self × (act .tx .count ≤ 64) ⌝ }
         ensures { λ r. ⌜ r ≡ settledOf self act ⌝ }
     {
@@ -79,14 +88,6 @@ impl Channel {
             reply: act.reply,
             resets: act.resets,
         }
-    }
-
-    // What an event that names the channel comes to.
-    pub fn step(self, touch: Touch) -> Step
-        requires { ⌜ WellFormed self ⌝ }
-        ensures { λ r. ⌜ r ≡ stepAt self touch ⌝ }
-    {
-        self.settled(self.act(touch))
     }
 
     // The channel by value after a step.

@@ -14,8 +14,8 @@ use Rattle.lines.specs.Interrupts.{isPending}
 use Rattle.channel.specs.declared.channel.Channel.{Channel}
 use Rattle.channel.specs.Channel as channel
 use Rattle.channel.specs.Channel.{pendingAt}
-use Rattle.channel.specs.Touches.{resetsBy}
-use Rattle.channel.specs.Step.{stepAt, touchedBy}
+use Rattle.acts.specs.Touches.{resetsBy}
+use Rattle.acts.specs.Step.{stepAt, touchedBy}
 use Rattle.device.specs.declared.side.Side.{Side}
 use Rattle.device.specs.declared.side.Side.the-variants as side
 use Rattle.device.specs.declared.device.Device.{Device}

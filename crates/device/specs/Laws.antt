@@ -26,10 +26,11 @@ use Rattle.registers.specs.Laws.{same-is}
 use Rattle.channel.specs.declared.channel.Channel.{Channel}
 use Rattle.channel.specs.Channel as channel
 use Rattle.channel.specs.State.{withLine, withFlags, withLatch}
-use Rattle.channel.specs.Touches.{settingBy, receiveChange, sentBy, transmitChange, resetsBy}
-use Rattle.channel.specs.Acts.{actWith, writeAct, actOf}
-use Rattle.channel.specs.Step.{settledOf, stepAt, afterStep, touchedBy}
-use Rattle.channel.specs.Laws.{step-resets, well-formed-touched}
+use Rattle.acts.specs.Touches.{settingBy, receiveChange, sentBy, transmitChange, resetsBy}
+use Rattle.acts.specs.Acts.{actWith, writeAct, actOf}
+use Rattle.channel.specs.Settle.{settledOf, afterStep}
+use Rattle.acts.specs.Step.{stepAt, touchedBy}
+use Rattle.acts.specs.Laws.{step-resets, well-formed-touched}
 use Rattle.device.specs.declared.side.Side.{Side}
 use Rattle.device.specs.declared.side.Side.the-variants as side
 use Rattle.device.specs.declared.device.Device.{Device}

@@ -1,6 +1,7 @@
 // The device record and its step by value.
 use crate::side::Side;
 use crate::side::numbered;
+use acts::step;
 use bits::one_if;
 use channel::Channel;
 use event::Event;
@@ -85,13 +86,13 @@ impl Device {
         let b = self.b;
         match side {
             Side::A => {
-                let step = a.step(touch);
+                let step = step(a, touch);
                 let now = a.after(step);
                 let device = Device { a: now, b: b };
                 device.given(step.resets, step.reply)
             }
             Side::B => {
-                let step = b.step(touch);
+                let step = step(b, touch);
                 let now = b.after(step);
                 let device = Device { a: a, b: now };
                 device.given(step.resets, step.reply)

@@ -69,17 +69,20 @@ use Rattle.lines.proofs.thr_condition.Reads as lines-thr-condition
 use Rattle.lines.proofs.transmit.Shift.loaded.Reads as lines-shift-loaded
 use Rattle.lines.proofs.transmit.Shift.busy.Reads as lines-shift-busy
 use Rattle.lines.proofs.transmit.Shift.leaving.Reads as lines-shift-leaving
-use Rattle.channel.proofs.channel.Channel.act.Reads as channel-act
 use Rattle.channel.proofs.channel.Channel.pending.Reads as channel-pending
 use Rattle.channel.proofs.channel.Channel.rts.Reads as channel-rts
 use Rattle.channel.proofs.channel.Channel.status.Reads as channel-status
-use Rattle.channel.proofs.channel.Channel.step.Reads as channel-step
+use Rattle.channel.proofs.channel.Channel.shown.Reads as channel-shown
+use Rattle.channel.proofs.channel.Channel.gives.Reads as channel-gives
+use Rattle.channel.proofs.channel.Channel.settled.Reads as channel-settled
 use Rattle.channel.proofs.channel.Channel.after.Reads as channel-after
 use Rattle.channel.proofs.state.State.with_line.Reads as channel-state-with-line
 use Rattle.channel.proofs.state.State.with_shift.Reads as channel-state-with-shift
 use Rattle.channel.proofs.state.State.with_modem.Reads as channel-state-with-modem
 use Rattle.channel.proofs.state.State.with_flags.Reads as channel-state-with-flags
 use Rattle.channel.proofs.state.State.with_latch.Reads as channel-state-with-latch
+use Rattle.acts.proofs.act.Reads as acts-act
+use Rattle.acts.proofs.step.Reads as acts-step
 use Rattle.device.proofs.device.Answer.number.Reads as device-answer-number
 use Rattle.device.proofs.irq.Reads as device-irq
 use Rattle.device.proofs.device.Device.step.Reads as device-step
@@ -295,9 +298,6 @@ lines-shift-busy-determined = by-equation (λ a r s h. h)
 pub lines-shift-leaving-determined : Determined (lines-shift-leaving.Post tt)
 lines-shift-leaving-determined = by-equation (λ a r s h. h)
 
-pub channel-act-determined : Determined (channel-act.Post tt)
-channel-act-determined = by-equation (λ a r s h. h)
-
 pub channel-pending-determined : Determined (channel-pending.Post tt)
 channel-pending-determined = by-equation (λ a r s h. h)
 
@@ -307,8 +307,14 @@ channel-rts-determined = by-equation (λ a r s h. h)
 pub channel-status-determined : Determined (channel-status.Post tt)
 channel-status-determined = by-equation (λ a r s h. h)
 
-pub channel-step-determined : Determined (channel-step.Post tt)
-channel-step-determined = by-equation (λ a r s h. h)
+pub channel-shown-determined : Determined (channel-shown.Post tt)
+channel-shown-determined = by-equation (λ a r s h. h)
+
+pub channel-gives-determined : Determined (channel-gives.Post tt)
+channel-gives-determined = by-equation (λ a r s h. h)
+
+pub channel-settled-determined : Determined (channel-settled.Post tt)
+channel-settled-determined = by-equation (λ a r s h. h)
 
 pub channel-after-determined : Determined (channel-after.Post tt)
 channel-after-determined = by-equation (λ a r s h. h)
@@ -327,6 +333,12 @@ channel-state-with-flags-determined = by-equation (λ a r s h. h)
 
 pub channel-state-with-latch-determined : Determined (channel-state-with-latch.Post tt)
 channel-state-with-latch-determined = by-equation (λ a r s h. h)
+
+pub acts-act-determined : Determined (acts-act.Post tt)
+acts-act-determined = by-equation (λ a r s h. h)
+
+pub acts-step-determined : Determined (acts-step.Post tt)
+acts-step-determined = by-equation (λ a r s h. h)
 
 pub device-answer-number-determined : Determined (device-answer-number.Post tt)
 device-answer-number-determined = by-equation (λ a r s h. h)

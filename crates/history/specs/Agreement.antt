@@ -11,8 +11,8 @@ use Rattle.registers.specs.Arrivals.{roomOf}
 use Rattle.registers.specs.Laws.{room-in}
 use Rattle.channel.specs.declared.channel.Channel.{Channel}
 use Rattle.channel.specs.Channel.{WellFormed}
-use Rattle.channel.specs.Touches.{receiveChange}
-use Rattle.channel.specs.Laws.{touched-settings, touched-rx}
+use Rattle.acts.specs.Touches.{receiveChange}
+use Rattle.acts.specs.Laws.{touched-settings, touched-rx}
 use Rattle.device.specs.declared.side.Side.{Side}
 use Rattle.device.specs.declared.side.Side.the-variants as side
 use Rattle.device.specs.declared.device.Device.{Device}

@@ -29,9 +29,10 @@ use Rattle.lines.specs.declared.interrupt.Interrupt.{Interrupt}
 use Rattle.lines.specs.Receive.{fateNumber, lsrOf}
 use Rattle.channel.specs.declared.channel.Channel.{Channel}
 use Rattle.channel.specs.Channel.{WellFormed, shownAt, statusOf, readOf}
-use Rattle.channel.specs.Touches.{arrivedCharacter, receiveChange, resetsBy}
-use Rattle.channel.specs.Acts.{received, actWith, readAct, arrivalAct, actOf}
-use Rattle.channel.specs.Step.{settledOf, stepAt}
+use Rattle.acts.specs.Touches.{arrivedCharacter, receiveChange, resetsBy}
+use Rattle.acts.specs.Acts.{received, actWith, readAct, arrivalAct, actOf}
+use Rattle.channel.specs.Settle.{settledOf}
+use Rattle.acts.specs.Step.{stepAt}
 use Rattle.device.specs.declared.side.Side.{Side}
 use Rattle.device.specs.declared.side.Side.the-variants as side
 use Rattle.device.specs.declared.device.Device.{Device}

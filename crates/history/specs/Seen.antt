@@ -8,8 +8,8 @@ use Rattle.event.specs.declared.events.Made.{Made}
 use Rattle.event.specs.declared.events.Made.the-variants as made
 use Rattle.event.specs.declared.events.Touch.{Touch}
 use Rattle.channel.specs.declared.channel.Channel.{Channel}
-use Rattle.channel.specs.Touches.{resetsBy}
-use Rattle.channel.specs.Step.{stepAt, touchedBy}
+use Rattle.acts.specs.Touches.{resetsBy}
+use Rattle.acts.specs.Step.{stepAt, touchedBy}
 use Rattle.device.specs.declared.side.Side.{Side}
 use Rattle.device.specs.declared.side.Side.the-variants as side
 use Rattle.device.specs.declared.device.Device.{Device}

@@ -25,9 +25,10 @@ use Rattle.lines.specs.Interrupts.{codeOf, lineStatusPending, timeoutPending, r
 use Rattle.lines.specs.Flags.{flagsCleared, flagsArrived, thrSettled, flagsSettled}
 use Rattle.channel.specs.State.{withLine, withModem, withFlags, withLatch}
 use Rattle.channel.specs.Channel.{pendingAt, shownAt, statusOf, readOf}
-use Rattle.channel.specs.Touches.{settingBy, receiveChange, sentBy, transmitChange, resetsBy}
-use Rattle.channel.specs.Acts.{actWith, writeAct, readAct, arrivalAct, actOf}
-use Rattle.channel.specs.Step.{momentOf, momentAt, settledOf, stepAt, afterStep}
+use Rattle.acts.specs.Touches.{settingBy, receiveChange, sentBy, transmitChange, resetsBy}
+use Rattle.acts.specs.Acts.{actWith, writeAct, readAct, arrivalAct, actOf}
+use Rattle.channel.specs.Settle.{momentOf, momentAt, settledOf, afterStep}
+use Rattle.acts.specs.Step.{stepAt}
 use Rattle.device.specs.declared.device.Device.{Device}
 use Rattle.device.specs.Reset.{settingsReset, linesReset, resetOf, blankSettings, blankChannel, resetDevice, newDevice}
 use Rattle.device.specs.Device.{sideNumbered, touchedAt, namedStep, stepOf}

@@ -9,8 +9,9 @@ use Rattle.event.specs.declared.events.Made.{Made}
 use Rattle.event.specs.declared.events.Made.the-variants as made
 use Rattle.event.specs.declared.events.Touch.{Touch}
 use Rattle.channel.specs.declared.channel.Channel.{Channel}
-use Rattle.channel.specs.Step.{stepAt, afterStep, touchedBy}
-use Rattle.channel.specs.Laws.{none-set}
+use Rattle.channel.specs.Settle.{afterStep}
+use Rattle.acts.specs.Step.{stepAt, touchedBy}
+use Rattle.acts.specs.Laws.{none-set}
 use Rattle.queue.specs.Queue.{afterOf}
 use Rattle.device.specs.declared.device.Device.{Device}
 use Rattle.device.specs.declared.device.Stepped.{Stepped}

@@ -11,7 +11,7 @@ use Rattle.event.specs.declared.events.Made.the-variants as made
 use Rattle.event.specs.declared.events.Touch.{Touch}
 use Rattle.event.specs.declared.events.Touch.the-variants as touch
 use Rattle.channel.specs.declared.channel.Channel.{Channel}
-use Rattle.channel.specs.Step.{stepAt}
+use Rattle.acts.specs.Step.{stepAt}
 use Rattle.device.specs.declared.device.Answer.the-variants as answer
 use Rattle.device.specs.Device.{irqOf, answerNumber}
 use Rattle.lent.specs.declared.way.Gave.{Gave}

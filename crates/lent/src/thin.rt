@@ -2,6 +2,7 @@
 use crate::way::Gave;
 use crate::way::gave_aside;
 use crate::way::way_of;
+use acts::step;
 use channel::Channel;
 use device::Device;
 use event::Touch;
@@ -9,7 +10,7 @@ use queue::settle;
 ghost use mathlib.Core.Path.{_≡_};
 ghost use Rattle.event.specs.Events.{eventOf};
 ghost use Rattle.channel.specs.Channel.{WellFormed as ChannelWellFormed};
-ghost use Rattle.channel.specs.Step.{touchedBy};
+ghost use Rattle.acts.specs.Step.{touchedBy};
 ghost use Rattle.device.specs.Device.{WellFormed};
 ghost use Rattle.lent.specs.Way.{gaveAt};
 ghost use Rattle.lent.specs.Lent.{Advanced};
@@ -19,7 +20,7 @@ fn advance_channel(lent: &mut Channel, touch: Touch) -> Gave
     requires { ⌜ ChannelWellFormed (now lent) ⌝ }
     ensures { λ r. ⌜ (r ≡ gaveAt (now (lent .entry)) touch) × (now (lent .exit) ≡ touchedBy (now (lent .entry)) touch) ⌝ }
 {
-    let step = (*lent).step(touch);
+    let step = step(*lent, touch);
     (*lent).state = step.state;
     settle(&mut (*lent).rx, step.rx);
     settle(&mut (*lent).tx, step.tx);

@@ -1,5 +1,5 @@
 use borrow.Author.Needs.{needs}
-use Rattle.channel.specs.Step.{momentOf}
+use Rattle.channel.specs.Settle.{momentOf}
 use Rattle.channel.proofs.settle.moment.Statement.{statement}
 use Rattle.channel.proofs.settle.moment.Tie as tie
 

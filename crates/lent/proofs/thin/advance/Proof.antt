@@ -33,7 +33,7 @@ use Rattle.event.specs.declared.events.Made.{Made}
 use Rattle.event.specs.declared.events.Touch.{Touch}
 use Rattle.event.specs.Events.{eventOf}
 use Rattle.channel.specs.Channel as channel
-use Rattle.channel.specs.Step.{touchedBy}
+use Rattle.acts.specs.Step.{touchedBy}
 use Rattle.channel.proofs.channel.Channel as K
 use Rattle.device.specs.declared.side.Side.the-variants as side
 use Rattle.device.specs.declared.device.Device.{Device}

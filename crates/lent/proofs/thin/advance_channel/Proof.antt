@@ -42,15 +42,16 @@ use Rattle.event.specs.declared.events.Touch.{Touch}
 use Rattle.channel.specs.declared.channel.Channel.{Channel}
 use Rattle.channel.specs.declared.settle.Step.{Step}
 use Rattle.channel.specs.Channel.{WellFormed}
-use Rattle.channel.specs.Step.{stepAt, afterStep, touchedBy}
-use Rattle.channel.specs.Laws.{rx-fits, tx-fits}
+use Rattle.channel.specs.Settle.{afterStep}
+use Rattle.acts.specs.Step.{stepAt, touchedBy}
+use Rattle.acts.specs.Laws.{rx-fits, tx-fits}
 use Rattle.channel.proofs.channel.Channel as K
 use Rattle.channel.proofs.settle.Step as S
 use Rattle.channel.proofs.settle.Step.Laws as S′
-use Rattle.channel.proofs.channel.Channel.step as g
-use Rattle.channel.proofs.channel.Channel.step.Symbol as g-def
-use Rattle.channel.proofs.channel.Channel.step.Symbol.{name as #g}
-use Rattle.channel.proofs.channel.Channel.step.Met as g-thm
+use Rattle.acts.proofs.step as g
+use Rattle.acts.proofs.step.Symbol as g-def
+use Rattle.acts.proofs.step.Symbol.{name as #g}
+use Rattle.acts.proofs.step.Met as g-thm
 use Rattle.lent.specs.Way.{gaveAt}
 use Rattle.lent.proofs.way.Gave as G
 use Rattle.lent.proofs.way.Gave.Laws as G′
@@ -158,5 +159,5 @@ advance-channel-spec 𝓤 H 𝓜 𝓖 𝓡 =
     entered 𝓤 H (tripleOf 𝓤 H (𝓖 .A) f.signature (f.spec 𝓤 H (𝓖 .A) (𝓜 .mem) (𝓡 .run)))
     (tables 𝓤 H 𝓜 𝓡 code.env .C) (tables 𝓤 H 𝓜 𝓡 code.env .Λ) #f code.function (code.unfolded 𝓤 H 𝓜 𝓡)
     (f-meets 𝓤 H (𝓖 .A) (givenOf 𝓤 H 𝓜 𝓖) (𝓜 .mem) (𝓡 .run) (tablesOf 𝓤 H 𝓜 (tables 𝓤 H 𝓜 𝓡 code.env))
-    (cited 𝓤 H (Steps 𝓤 H (𝓖 .A) (𝓜 .mem) (𝓡 .run)) 𝓜 𝓡 code.env #g g-def.routine code.calls-channel·channel·Channel·step (g-thm.met 𝓤 H 𝓜 𝓖 𝓡))
+    (cited 𝓤 H (Steps 𝓤 H (𝓖 .A) (𝓜 .mem) (𝓡 .run)) 𝓜 𝓡 code.env #g g-def.routine code.calls-acts·step (g-thm.met 𝓤 H 𝓜 𝓖 𝓡))
     (cited 𝓤 H (Settle 𝓤 H (𝓖 .A) (𝓜 .mem) (𝓡 .run)) 𝓜 𝓡 code.env #s s-def.routine code.calls-queue·settle (s-thm.met 𝓤 H 𝓜 𝓖 𝓡)))

@@ -1,5 +1,5 @@
 use borrow.Author.Needs.{needs}
-use Rattle.channel.specs.Step.{afterStep}
+use Rattle.channel.specs.Settle.{afterStep}
 use Rattle.channel.proofs.channel.Channel.after.Statement.{statement}
 use Rattle.channel.proofs.channel.Channel.after.Tie as tie
 

@@ -1,5 +1,5 @@
 use borrow.Author.Needs.{needs}
-use Rattle.channel.specs.Step.{momentAt}
+use Rattle.channel.specs.Settle.{momentAt}
 use Rattle.channel.proofs.channel.Channel.moment.Statement.{statement}
 use Rattle.channel.proofs.channel.Channel.moment.Tie as tie
 

@@ -1,5 +1,5 @@
 use borrow.Author.Needs.{needs}
-use Rattle.channel.specs.Step.{settledOf}
+use Rattle.channel.specs.Settle.{settledOf}
 use Rattle.channel.proofs.channel.Channel.settled.Statement.{statement}
 use Rattle.channel.proofs.channel.Channel.settled.Tie as tie
 

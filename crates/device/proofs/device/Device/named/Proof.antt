@@ -1,5 +1,5 @@
 use borrow.Author.Needs.{needs}
-use Rattle.channel.specs.Laws.{rx-fits, tx-fits}
+use Rattle.acts.specs.Laws.{rx-fits, tx-fits}
 use Rattle.device.specs.declared.side.Side.the-variants as side
 use Rattle.device.specs.Laws.{named-in-turn}
 use Rattle.device.proofs.device.Device.named.Statement.{statement}

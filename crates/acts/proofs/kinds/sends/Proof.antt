@@ -1,0 +1,30 @@
+use borrow.Author.Needs.{needs}
+use Rattle.acts.specs.Touches.{sentBy}
+use Rattle.acts.specs.Laws.{sent-moved}
+use Rattle.acts.proofs.kinds.sends.Statement.{statement}
+use Rattle.acts.proofs.kinds.sends.Tie as tie
+
+is-requires : tie.Need-is-requires
+is-requires c κs = search needs
+
+adds-requires : tie.Need-adds-requires
+adds-requires c κs = search needs
+
+returns : tie.Need-returns
+unfolding sentBy
+returns c = simp (sent-moved, c .adds .ensures, c .before .if1 .taken, ← (c .before .before .is .ensures))
+
+clears-requires : tie.Need-clears-requires
+clears-requires c κs = search needs
+
+clears-requires-2 : tie.Need-clears-requires-2
+clears-requires-2 c κs = search needs
+
+returns-2 : tie.Need-returns-2
+unfolding sentBy
+returns-2 c = simp (sent-moved, c .clears2 .ensures, c .before .clears .ensures, c .before .before .if1 .left, ← (c .before .before .before .is .ensures))
+
+pub sends-spec : {M : Type 1} → statement M
+sends-spec =
+    tie.close
+    (tie.spec is-requires adds-requires returns clears-requires clears-requires-2 returns-2)

@@ -1,0 +1,5 @@
+-- What the contracts of `acts` cite, in the order of an event, and the laws of it.
+pub mod Touches
+pub mod Acts
+pub mod Step
+pub mod Laws

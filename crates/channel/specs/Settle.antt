@@ -1,0 +1,56 @@
+-- Definitions: ".. the latch, the RTS flag, the THR flag": what an act comes to with what settles after it, and the channel
+-- afterwards.
+use mathlib.Core.Bool.{Bool, not}
+use Rattle.queue.specs.Queue.{afterOf}
+use Rattle.registers.specs.declared.levels.Spaces.{Spaces}
+use Rattle.registers.specs.declared.register.Register.the-variants as register
+use Rattle.registers.specs.declared.settings.Settings.{Settings}
+use Rattle.registers.specs.Windows.{same}
+use Rattle.registers.specs.Writes.{withSetting}
+use Rattle.lines.specs.declared.transmit.Shift.{Shift}
+use Rattle.lines.specs.declared.flags.Moment.{Moment}
+use Rattle.lines.specs.Transmit.{spacesOf, isBusy, thrCondition}
+use Rattle.lines.specs.Rts.{latchAfter, rtsOf}
+use Rattle.lines.specs.Flags.{flagsSettled}
+use Rattle.channel.specs.declared.settle.Act.{Act}
+use Rattle.channel.specs.declared.channel.Channel.{Channel}
+use Rattle.channel.specs.declared.settle.Step.{Step}
+use Rattle.channel.specs.State.{withFlags, withLatch}
+use Rattle.channel.specs.Channel.{freeAt}
+
+-- RTS and the THR condition
+unfoldable pub momentOf : Settings → Bool → Shift → Spaces → Moment
+momentOf s latch shift free = record { rts = rtsOf s latch (isBusy shift free); thr = thrCondition s free }
+
+unfoldable pub momentAt : Channel → Moment
+momentAt ch = momentOf (ch .settings) (ch .state .latch) (ch .state .shift) (freeAt ch)
+
+-- the stored registers and the latch after an act
+abbrev pub settingsBy : Channel → Act → Settings
+settingsBy ch act = withSetting (ch .settings) (act .setting)
+
+abbrev pub latchBy : Channel → Act → Bool
+latchBy ch act = latchAfter (settingsBy ch act) (record { 0 = act .rx .count }) (act .state .latch)
+
+-- the RTS flag and the THR flag go by RTS and the THR condition before the act and now
+unfoldable pub settledOf : Channel → Act → Step
+settledOf ch act =
+    record {
+      sets = not (same (act .setting .register) register.Closed);
+      settings = settingsBy ch act;
+      state =
+          withLatch
+          (withFlags (act .state)
+          (flagsSettled (act .state .flags) (momentAt ch)
+          (momentOf (settingsBy ch act) (latchBy ch act) (act .state .shift) (spacesOf (act .tx .count)))))
+          (latchBy ch act);
+      rx = act .rx;
+      tx = act .tx;
+      reply = act .reply;
+      resets = act .resets;
+    }
+
+-- the channel after a step
+unfoldable pub afterStep : Channel → Step → Channel
+afterStep ch step =
+    record { settings = step .settings; state = step .state; rx = afterOf (ch .rx) (step .rx); tx = afterOf (ch .tx) (step .tx) }
