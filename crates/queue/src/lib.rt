@@ -147,12 +147,6 @@ impl Queue {
         if puts {
             bytes[place] = moved.character.byte;
             marks[place] = moved.character.mark;
-            return Queue {
-                bytes: bytes,
-                marks: marks,
-                start: moved.start,
-                count: moved.count,
-            };
         }
         Queue {
             bytes: bytes,
