@@ -20,42 +20,35 @@ use Rattle.device.specs.Reset.{resetOf, blankChannel, resetDevice, newDevice}
 use Rattle.device.specs.Device as device
 use Rattle.device.specs.Device.{channelAt, answeredOf}
 use Rattle.device.specs.Laws.{otherSide, well-formed-new, well-formed-at, well-formed-answered}
-use Rattle.history.specs.Judge.{Tally, tallyAfter, Ledger, freshLedger, Effect, Own, Other, Reset, Nothing, effectOn, changeBy, ownBy, otherBy, ledgerAfter, judgedBy, judgedFrom, judgement}
+use Rattle.history.specs.Judge.{Tally, tallyAfter, Ledger, freshLedger, Effect, Own, Other, Reset, Nothing, effectOn, changeBy, settingsMet, elsewhere, ledgerAfter, judgedBy, judgedFrom, judgement}
 use Rattle.history.specs.Demand3.{ranFrom, ran, AllIn}
 use Rattle.history.specs.Tally.{Holds, holds-changed}
-use Rattle.history.specs.Seen.{ownAfter, otherAfter, Seen, Same, seen}
+use Rattle.history.specs.Seen.{channelMet, Seen, Same, seen}
 
 pub record Agrees (w : Side) (d : Device) (l : Ledger) : Type 0 where
   pub same : Same w d l
   pub holds : Holds (channelAt d w .rx) (l .tally)
 
 -- ---- an effect at a channel
-own-settings : (ch : Channel) (f : Effect) → ownAfter ch f .settings ≡ ownBy (ch .settings) f
+met-settings : (ch : Channel) (f : Effect) → channelMet ch f .settings ≡ settingsMet (ch .settings) f
 unfolding resetOf
-own-settings ch (Own t) = touched-settings ch t
-own-settings ch (Other t) = refl
-own-settings ch Reset = refl
-own-settings ch Nothing = refl
+met-settings ch (Own t) = touched-settings ch t
+met-settings ch (Other t) = refl
+met-settings ch Reset = refl
+met-settings ch Nothing = refl
 
-other-settings : (ch : Channel) (f : Effect) → otherAfter ch f .settings ≡ otherBy (ch .settings) f
-unfolding resetOf
-other-settings ch (Own t) = refl
-other-settings ch (Other t) = touched-settings ch t
-other-settings ch Reset = refl
-other-settings ch Nothing = refl
-
-own-holds : (ch : Channel) (f : Effect) (l : Tally) → WellFormed ch → Holds (ch .rx) l
-    → Holds (ownAfter ch f .rx) (tallyAfter l (changeBy (ch .settings) f) (roomOf (ch .settings)))
+met-holds : (ch : Channel) (f : Effect) (l : Tally) → WellFormed ch → Holds (ch .rx) l
+    → Holds (channelMet ch f .rx) (tallyAfter l (changeBy (ch .settings) f) (roomOf (ch .settings)))
 unfolding resetOf tallyAfter movedBy
-own-holds ch (Own t) l ok h =
+met-holds ch (Own t) l ok h =
     rw (touched-rx ch t) (holds-changed (ch .rx) l (receiveChange (ch .settings) t) (roomOf (ch .settings)) (ok .rx-in) (room-in (ch .settings)) h)
-own-holds ch (Other t) l ok h = h
-own-holds ch Reset l ok h = record { within = omega arith; same = items-cleared (ch .rx) 64 }
-own-holds ch Nothing l ok h = h
+met-holds ch (Other t) l ok h = h
+met-holds ch Reset l ok h = record { within = omega arith; same = items-cleared (ch .rx) 64 }
+met-holds ch Nothing l ok h = h
 
-own-holds-by : (ch : Channel) (s : Settings) (f : Effect) (l : Tally) → ch .settings ≡ s → WellFormed ch → Holds (ch .rx) l
-    → Holds (ownAfter ch f .rx) (tallyAfter l (changeBy s f) (roomOf s))
-own-holds-by ch s f l e ok h = rw (← e) (own-holds ch f l ok h)
+met-holds-by : (ch : Channel) (s : Settings) (f : Effect) (l : Tally) → ch .settings ≡ s → WellFormed ch → Holds (ch .rx) l
+    → Holds (channelMet ch f .rx) (tallyAfter l (changeBy s f) (roomOf s))
+met-holds-by ch s f l e ok h = rw (← e) (met-holds ch f l ok h)
 
 -- ---- one event
 pub agrees-answered : (w : Side) (d : Device) (l : Ledger) (m : Made) → device.WellFormed d → Agrees w d l → Agrees w (answeredOf d m .device) (judgedBy w l m)
@@ -66,15 +59,15 @@ agrees-answered w d l m ok h =
       same =
           record {
             own =
-                ap (λ (ch : Channel). ch .settings) (at .own) ∙ own-settings (channelAt d w) (effectOn w l m)
-                ∙ ap (λ (s : Settings). ownBy s (effectOn w l m)) (h .same .own);
+                ap (λ (ch : Channel). ch .settings) (at .own) ∙ met-settings (channelAt d w) (effectOn w l m)
+                ∙ ap (λ (s : Settings). settingsMet s (effectOn w l m)) (h .same .own);
             other =
-                ap (λ (ch : Channel). ch .settings) (at .other) ∙ other-settings (channelAt d (otherSide w)) (effectOn w l m)
-                ∙ ap (λ (s : Settings). otherBy s (effectOn w l m)) (h .same .other);
+                ap (λ (ch : Channel). ch .settings) (at .other) ∙ met-settings (channelAt d (otherSide w)) (elsewhere (effectOn w l m))
+                ∙ ap (λ (s : Settings). settingsMet s (elsewhere (effectOn w l m))) (h .same .other);
           };
       holds =
           rw (at .own)
-          (own-holds-by (channelAt d w) (l .own) (effectOn w l m) (l .tally) (h .same .own) (well-formed-at d w ok) (h .holds));
+          (met-holds-by (channelAt d w) (l .own) (effectOn w l m) (l .tally) (h .same .own) (well-formed-at d w ok) (h .holds));
     }
 
 -- ---- every history

@@ -22,7 +22,7 @@ use Rattle.device.specs.Device.{channelAt, sideNumbered, touchedAt, namedStep, 
 use Rattle.device.specs.Laws.{well-formed-new, well-formed-answered}
 use Rattle.history.specs.Judge.{Ledger, freshLedger, tallyAfter, Effect, Own, Other, Reset, Nothing, isSide, namedEffect, effectOn, ledgerAfter, judgedBy, judgedFrom}
 use Rattle.history.specs.Demand3.{ranFrom, ran, AllIn, tally, ofOwn, ofOther, withoutOther, NoResetThereFrom, NoResetThere, answersFrom, answers, Alone}
-use Rattle.history.specs.Seen.{ownAfter, own-side, seen}
+use Rattle.history.specs.Seen.{channelMet, own-side, seen}
 use Rattle.history.specs.Agreement.{Agrees, agrees-answered, agrees-new}
 
 -- ---- what an event of the other channel does, if it is no reset
@@ -82,7 +82,7 @@ unfolding judgedBy
 alike-other w l k m there kept h = alike-there l k (effectOn w l m) (passes w l m there kept) h
 
 -- ---- the channel's record
-left-alone : (ch : Channel) (f : Effect) → PassesBy f → ownAfter ch f ≡ ch
+left-alone : (ch : Channel) (f : Effect) → PassesBy f → channelMet ch f ≡ ch
 left-alone ch (Own t) by = absurd by
 left-alone ch (Other t) by = refl
 left-alone ch Reset by = absurd by
@@ -160,8 +160,8 @@ beside-here w d k l n m ok ok′ here h =
       alike = alike-here w l n m here (h .alike);
       same =
           seen w d l (h .d-agrees .same) m .own
-          ∙ ap (ownAfter (channelAt d w)) (same-effect w l n m here (h .alike .own))
-          ∙ ap (λ (ch : Channel). ownAfter ch (effectOn w n m)) (h .same)
+          ∙ ap (channelMet (channelAt d w)) (same-effect w l n m here (h .alike .own))
+          ∙ ap (λ (ch : Channel). channelMet ch (effectOn w n m)) (h .same)
           ∙ sym (seen w k n (h .k-agrees .same) m .own);
     }
 

@@ -100,24 +100,28 @@ changeBy s (Other t) = Stay
 changeBy s Reset = Clear
 changeBy s Nothing = Stay
 
--- and to the stored registers of a channel that it touches, or that the other is
-abbrev pub ownBy : Settings → Effect → Settings
-ownBy s (Own t) = settingsAfter s t
-ownBy s (Other t) = s
-ownBy s Reset = settingsReset s
-ownBy s Nothing = s
+-- and to what a touch and a reset alter
+abbrev pub metBy : {A : Type 0} → (A → Touch → A) → (A → A) → A → Effect → A
+metBy touched reset a (Own t) = touched a t
+metBy touched reset a (Other t) = a
+metBy touched reset a Reset = reset a
+metBy touched reset a Nothing = a
 
-abbrev pub otherBy : Settings → Effect → Settings
-otherBy s (Own t) = s
-otherBy s (Other t) = settingsAfter s t
-otherBy s Reset = settingsReset s
-otherBy s Nothing = s
+abbrev pub settingsMet : Settings → Effect → Settings
+settingsMet s f = metBy settingsAfter settingsReset s f
+
+-- the same event as the other channel meets it
+abbrev pub elsewhere : Effect → Effect
+elsewhere (Own t) = Other t
+elsewhere (Other t) = Own t
+elsewhere Reset = Reset
+elsewhere Nothing = Nothing
 
 unfoldable pub ledgerAfter : Ledger → Effect → Ledger
 ledgerAfter l f =
     record {
-      own = ownBy (l .own) f;
-      other = otherBy (l .other) f;
+      own = settingsMet (l .own) f;
+      other = settingsMet (l .other) (elsewhere f);
       tally = tallyAfter (l .tally) (changeBy (l .own) f) (roomOf (l .own));
     }
 

@@ -17,7 +17,7 @@ use Rattle.device.specs.declared.device.Stepped.{Stepped}
 use Rattle.device.specs.Reset.{resetOf, resetDevice}
 use Rattle.device.specs.Device.{channelAt, withChannel, sideNumbered, touchedAt, namedStep, stepOf, answeredOf}
 use Rattle.device.specs.Laws.{otherSide}
-use Rattle.history.specs.Judge.{Ledger, Effect, Own, Other, Reset, Nothing, isSide, namedEffect, eventEffect, effectOn}
+use Rattle.history.specs.Judge.{Ledger, Effect, Own, Other, Reset, Nothing, isSide, namedEffect, eventEffect, effectOn, metBy, elsewhere}
 use Rattle.history.specs.Demand3.{replyTo}
 
 -- an event of a channel is of its own or of the other
@@ -30,23 +30,14 @@ side-of side.B side.B = refl
 pub own-side : (w at : Side) → isSide w at ≡ true → at ≡ w
 own-side w at own = rw own at (side-of w at)
 
--- a channel after an event that it meets, and the other channel
-abbrev pub ownAfter : Channel → Effect → Channel
-ownAfter ch (Own t) = touchedBy ch t
-ownAfter ch (Other t) = ch
-ownAfter ch Reset = resetOf ch
-ownAfter ch Nothing = ch
-
-abbrev pub otherAfter : Channel → Effect → Channel
-otherAfter ch (Own t) = ch
-otherAfter ch (Other t) = touchedBy ch t
-otherAfter ch Reset = resetOf ch
-otherAfter ch Nothing = ch
+-- a channel after an event that it meets
+abbrev pub channelMet : Channel → Effect → Channel
+channelMet ch f = metBy touchedBy resetOf ch f
 
 -- what is seen at both channels of a device after an event
 pub record Seen (w : Side) (before after : Device) (f : Effect) : Type 0 where
-  pub own : channelAt after w ≡ ownAfter (channelAt before w) f
-  pub other : channelAt after (otherSide w) ≡ otherAfter (channelAt before (otherSide w)) f
+  pub own : channelAt after w ≡ channelMet (channelAt before w) f
+  pub other : channelAt after (otherSide w) ≡ channelMet (channelAt before (otherSide w)) (elsewhere f)
 
 seen-reset : (w : Side) (d : Device) → Seen w d (resetDevice d) Reset
 unfolding resetDevice
