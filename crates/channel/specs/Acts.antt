@@ -12,12 +12,12 @@ use Rattle.registers.specs.declared.register.Register.{Register}
 use Rattle.registers.specs.declared.register.Register.the-variants as register
 use Rattle.registers.specs.Windows.{same, registerAt}
 use Rattle.registers.specs.Writes.{noSetting, settingOf, resetsDevice}
-use Rattle.registers.specs.Arrivals.{doesPass, heardOf, roomOf}
-use Rattle.registers.specs.Queues.{clears, loads}
-use Rattle.lines.specs.Receive.{lineArrived, lineRead, lineCleared, lineQuieter, fateNumber}
+use Rattle.registers.specs.Queues.{roomOf, clears, loads}
+use Rattle.receiver.specs.Arrivals.{doesPass, heardOf}
+use Rattle.receiver.specs.Line.{lineArrived, lineRead, lineCleared, lineQuieter, fateNumber}
 use Rattle.lines.specs.Transmit.{shiftLoaded, slotReply}
 use Rattle.lines.specs.Modem.{ctsAsserted, ctsOff, pinsChanged, modemRead}
-use Rattle.lines.specs.Flags.{flagsCleared, flagsArrived, flagsPins}
+use Rattle.interrupts.specs.Flags.{flagsCleared, flagsArrived, flagsPins}
 use Rattle.channel.specs.declared.act.Act.{Act}
 use Rattle.channel.specs.declared.channel.Channel.{Channel}
 use Rattle.channel.specs.declared.state.State.{State}

@@ -3,12 +3,14 @@ use crate::channel::Channel;
 use crate::state::State;
 use bits::one_if;
 use event::Touch;
-use lines::Interrupt;
+use interrupts::Interrupt;
 use lines::Shift;
-use lines::fate;
 use lines::spaces;
 use queue::Character;
 use queue::Moved;
+use receiver::arrived_byte;
+use receiver::fate;
+use receiver::heard_by;
 use registers::Register;
 use registers::Setting;
 use registers::resets_device;
@@ -168,11 +170,11 @@ impl Channel {
         let flags = state.flags;
         let rx = self.rx;
         let tx = self.tx;
-        let heard = settings.heard(byte, mark);
+        let heard = heard_by(settings, byte, mark);
         let gate = heard.gate;
         let setting = heard.setting;
         let character = Character {
-            byte: settings.arrived_byte(byte, mark),
+            byte: arrived_byte(settings, byte, mark),
             mark: mark,
         };
         let moved = rx.adds(gate.passes(), character, settings.room());

@@ -3,7 +3,7 @@ use crate::act::Act;
 use crate::channel::Channel;
 use crate::state::State;
 use event::Touch;
-use lines::Moment;
+use interrupts::Moment;
 use lines::Shift;
 use lines::latch_after;
 use lines::rts_asserted;

@@ -4,8 +4,8 @@ use Rattle.channel.specs.Acts.{arrivalAct}
 use Rattle.channel.proofs.channel.Channel.arrival.Statement.{statement}
 use Rattle.channel.proofs.channel.Channel.arrival.Tie as tie
 
-heard-requires : tie.Need-heard-requires
-heard-requires c κs = search needs
+heard-by-requires : tie.Need-heard-by-requires
+heard-by-requires c κs = search needs
 
 arrived-byte-requires : tie.Need-arrived-byte-requires
 arrived-byte-requires c κs = search needs
@@ -39,13 +39,13 @@ fate-requires c κs = search needs
 
 returns : tie.Need-returns
 unfolding arrivalAct
-returns c = simp (c .fate .ensures, c .before .stays .ensures, c .before .before .with-flags .ensures, c .before .before .before .arrived2 .ensures, c .before .before .before .before .with-line .ensures, c .before .before .before .before .before .arrived .ensures, c .before .before .before .before .before .before .adds .ensures, c .before .before .before .before .before .before .before .room .ensures, c .before .before .before .before .before .before .before .before .passes .ensures, c .before .before .before .before .before .before .before .before .before .arrived-byte .ensures, c .before .before .before .before .before .before .before .before .before .before .before .heard .ensures)
+returns c = simp (c .fate .ensures, c .before .stays .ensures, c .before .before .with-flags .ensures, c .before .before .before .arrived2 .ensures, c .before .before .before .before .with-line .ensures, c .before .before .before .before .before .arrived .ensures, c .before .before .before .before .before .before .adds .ensures, c .before .before .before .before .before .before .before .room .ensures, c .before .before .before .before .before .before .before .before .passes .ensures, c .before .before .before .before .before .before .before .before .before .arrived-byte .ensures, c .before .before .before .before .before .before .before .before .before .before .before .heard-by .ensures)
 
 pub arrival-spec : {M : Type 1} → statement M
 arrival-spec =
     tie.close
     (tie.spec
-    heard-requires
+    heard-by-requires
     arrived-byte-requires
     passes-requires
     room-requires
