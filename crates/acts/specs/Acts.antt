@@ -12,12 +12,12 @@ use Rattle.event.specs.declared.events.Touch.the-variants as touch
 use Rattle.registers.specs.declared.register.Register.{Register}
 use Rattle.registers.specs.Windows.{registerAt}
 use Rattle.registers.specs.Writes.{noSetting}
-use Rattle.registers.specs.Arrivals.{heardOf, roomOf}
-use Rattle.registers.specs.Queues.{clears, loads}
-use Rattle.lines.specs.Receive.{lineArrived, lineRead, lineCleared, lineQuieter, fateNumber}
+use Rattle.registers.specs.Queues.{roomOf, clears, loads}
+use Rattle.receiver.specs.Arrivals.{heardOf}
+use Rattle.receiver.specs.Line.{lineArrived, lineRead, lineCleared, lineQuieter, fateNumber}
 use Rattle.lines.specs.Transmit.{shiftLoaded, slotReply}
 use Rattle.lines.specs.Modem.{ctsAsserted, ctsOff, pinsChanged, modemRead}
-use Rattle.lines.specs.Flags.{flagsCleared, flagsArrived, flagsPins}
+use Rattle.interrupts.specs.Flags.{flagsCleared, flagsArrived, flagsPins}
 use Rattle.channel.specs.declared.settle.Act.{Act}
 use Rattle.channel.specs.declared.channel.Channel.{Channel}
 use Rattle.channel.specs.declared.state.State.{State}

@@ -17,12 +17,13 @@ use Rattle.registers.specs.declared.register.Register.the-variants as register
 use Rattle.registers.specs.declared.settings.Settings.{Settings}
 use Rattle.registers.specs.Windows.{same, registerAt}
 use Rattle.registers.specs.Writes.{withSetting}
-use Rattle.registers.specs.Arrivals.{doesPass, heardOf, roomOf}
-use Rattle.registers.specs.Queues.{clears}
+use Rattle.registers.specs.Queues.{roomOf, clears}
 use Rattle.registers.specs.Laws.{same-is, closed-sets-none, room-in}
-use Rattle.lines.specs.Receive.{lineArrived}
+use Rattle.receiver.specs.Arrivals.{doesPass, heardOf}
+use Rattle.receiver.specs.Line.{lineArrived}
+use Rattle.receiver.specs.Laws.{quiet-read, quiet-cleared, quiet-quieter}
 use Rattle.lines.specs.Modem.{ctsAsserted}
-use Rattle.lines.specs.Laws.{quiet-read, quiet-cleared, quiet-quieter, ModemIn, modem-read, modem-changed}
+use Rattle.lines.specs.Laws.{ModemIn, modem-read, modem-changed}
 use Rattle.channel.specs.declared.channel.Channel.{Channel}
 use Rattle.channel.specs.declared.state.State.{State}
 use Rattle.channel.specs.State.{withLine, withShift, withModem, withFlags, withLatch}

@@ -5,10 +5,12 @@ use channel::Channel;
 use channel::State;
 use event::Touch;
 use lines::Shift;
-use lines::fate;
 use lines::spaces;
 use queue::Character;
 use queue::Moved;
+use receiver::arrived_byte;
+use receiver::fate;
+use receiver::heard_by;
 use registers::Register;
 use registers::Setting;
 use registers::resets_device;
@@ -110,11 +112,11 @@ fn arrival(channel: Channel, byte: u8, mark: u8) -> Act
     let flags = state.flags;
     let rx = channel.rx;
     let tx = channel.tx;
-    let heard = settings.heard(byte, mark);
+    let heard = heard_by(settings, byte, mark);
     let gate = heard.gate;
     let setting = heard.setting;
     let character = Character {
-        byte: settings.arrived_byte(byte, mark),
+        byte: arrived_byte(settings, byte, mark),
         mark: mark,
     };
     let moved = rx.adds(gate.passes(), character, settings.room());

@@ -10,14 +10,14 @@ use Rattle.registers.specs.declared.levels.Spaces.{Spaces}
 use Rattle.registers.specs.declared.register.Register.{Register}
 use Rattle.registers.specs.declared.register.Register.the-variants as register
 use Rattle.registers.specs.Windows.{same}
-use Rattle.lines.specs.declared.receive.Status.{Status}
-use Rattle.lines.specs.declared.interrupt.Interrupt.{Interrupt}
-use Rattle.lines.specs.declared.interrupt.Interrupt.the-variants as interrupt
-use Rattle.lines.specs.Receive.{lsrOf}
+use Rattle.receiver.specs.declared.line.Status.{Status}
+use Rattle.receiver.specs.Line.{lsrOf}
 use Rattle.lines.specs.Transmit.{spacesOf, allFree, isBusy}
 use Rattle.lines.specs.Rts.{rtsOf}
 use Rattle.lines.specs.Modem.{msrOf}
-use Rattle.lines.specs.Interrupts.{pendingOf, iirOf}
+use Rattle.interrupts.specs.declared.interrupt.Interrupt.{Interrupt}
+use Rattle.interrupts.specs.declared.interrupt.Interrupt.the-variants as interrupt
+use Rattle.interrupts.specs.Interrupts.{pendingOf, iirOf}
 use Rattle.channel.specs.declared.channel.Channel.{Channel}
 
 -- what may be asked of a record: "its counts, places and stored values within their bounds"

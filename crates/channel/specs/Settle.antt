@@ -8,10 +8,10 @@ use Rattle.registers.specs.declared.settings.Settings.{Settings}
 use Rattle.registers.specs.Windows.{same}
 use Rattle.registers.specs.Writes.{withSetting}
 use Rattle.lines.specs.declared.transmit.Shift.{Shift}
-use Rattle.lines.specs.declared.flags.Moment.{Moment}
 use Rattle.lines.specs.Transmit.{spacesOf, isBusy, thrCondition}
 use Rattle.lines.specs.Rts.{latchAfter, rtsOf}
-use Rattle.lines.specs.Flags.{flagsSettled}
+use Rattle.interrupts.specs.declared.flags.Moment.{Moment}
+use Rattle.interrupts.specs.Flags.{flagsSettled}
 use Rattle.channel.specs.declared.settle.Act.{Act}
 use Rattle.channel.specs.declared.channel.Channel.{Channel}
 use Rattle.channel.specs.declared.settle.Step.{Step}

@@ -1,9 +1,9 @@
 -- Definitions: the lines of a channel with one of them anew.
 use mathlib.Core.Bool.{Bool}
-use Rattle.lines.specs.declared.receive.Line.{Line}
+use Rattle.receiver.specs.declared.line.Line.{Line}
 use Rattle.lines.specs.declared.transmit.Shift.{Shift}
 use Rattle.lines.specs.declared.modem.Modem.{Modem}
-use Rattle.lines.specs.declared.flags.Flags.{Flags}
+use Rattle.interrupts.specs.declared.flags.Flags.{Flags}
 use Rattle.channel.specs.declared.state.State.{State}
 
 unfoldable pub withLine : State → Line → State

@@ -1,12 +1,12 @@
 // The record of a channel, and what is seen of it from outside.
 use crate::state::State;
-use lines::Interrupt;
-use lines::Status;
+use interrupts::Interrupt;
+use interrupts::pending;
 use lines::all_free;
-use lines::pending;
 use lines::rts_asserted;
 use lines::spaces;
 use queue::Queue;
+use receiver::Status;
 use registers::Characters;
 use registers::Register;
 use registers::Settings;

@@ -1,7 +1,7 @@
 // What settles after the act of an event, whatever its kind: the latch, the RTS flag and the THR flag.
 use crate::channel::Channel;
 use crate::state::State;
-use lines::Moment;
+use interrupts::Moment;
 use lines::Shift;
 use lines::latch_after;
 use lines::rts_asserted;

@@ -1,8 +1,8 @@
 // The lines of a channel: all that it keeps beside its stored registers and its queues.
-use lines::Flags;
-use lines::Line;
+use interrupts::Flags;
 use lines::Modem;
 use lines::Shift;
+use receiver::Line;
 ghost use mathlib.Core.Path.{_≡_};
 ghost use Rattle.channel.specs.State.{withLine, withShift, withModem, withFlags, withLatch};
 

@@ -10,7 +10,7 @@ use Rattle.event.specs.declared.events.Made.{Made}
 use Rattle.event.specs.declared.events.Made.the-variants as made
 use Rattle.event.specs.declared.events.Touch.{Touch}
 use Rattle.event.specs.Refusals.{refusalNumber}
-use Rattle.lines.specs.Interrupts.{isPending}
+use Rattle.interrupts.specs.Interrupts.{isPending}
 use Rattle.channel.specs.declared.channel.Channel.{Channel}
 use Rattle.channel.specs.Channel as channel
 use Rattle.channel.specs.Channel.{pendingAt}

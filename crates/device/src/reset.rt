@@ -2,11 +2,11 @@
 use crate::device::Device;
 use channel::Channel;
 use channel::State;
-use lines::Flags;
-use lines::Line;
+use interrupts::Flags;
 use lines::Modem;
 use lines::Shift;
 use queue::Queue;
+use receiver::Line;
 use registers::Settings;
 ghost use mathlib.Core.Path.{_≡_};
 ghost use Rattle.device.specs.Reset.{settingsReset, linesReset, resetOf, blankSettings, blankChannel, resetDevice, newDevice};

@@ -24,16 +24,13 @@ use Rattle.event.proofs.events.Event.judged.Reads as event-judged
 use Rattle.event.proofs.read_at.Reads as event-read-at
 use Rattle.event.proofs.refusal.Refusal.number.Reads as event-refusal-number
 use Rattle.event.proofs.write.Reads as event-write
-use Rattle.registers.proofs.arrival.Gate.passes.Reads as registers-gate-passes
-use Rattle.registers.proofs.settings.Settings.arrived_byte.Reads as registers-settings-arrived-byte
-use Rattle.registers.proofs.settings.Settings.heard.Reads as registers-settings-heard
-use Rattle.registers.proofs.settings.Settings.room.Reads as registers-settings-room
 use Rattle.registers.proofs.levels.Characters.reaches.Reads as registers-characters-reaches
 use Rattle.registers.proofs.levels.Spaces.reaches.Reads as registers-spaces-reaches
 use Rattle.registers.proofs.settings.Settings.receive_level.Reads as registers-settings-receive-level
 use Rattle.registers.proofs.settings.Settings.transmit_level.Reads as registers-settings-transmit-level
 use Rattle.registers.proofs.settings.Settings.halt_level.Reads as registers-settings-halt-level
 use Rattle.registers.proofs.settings.Settings.resume_level.Reads as registers-settings-resume-level
+use Rattle.registers.proofs.settings.Settings.room.Reads as registers-settings-room
 use Rattle.registers.proofs.settings.Settings.clears.Reads as registers-settings-clears
 use Rattle.registers.proofs.settings.Settings.loads.Reads as registers-settings-loads
 use Rattle.registers.proofs.register.Register.is.Reads as registers-register-is
@@ -42,25 +39,20 @@ use Rattle.registers.proofs.settings.Settings.register.Reads as registers-setti
 use Rattle.registers.proofs.settings.Settings.written.Reads as registers-settings-written
 use Rattle.registers.proofs.settings.Settings.with.Reads as registers-settings-with
 use Rattle.registers.proofs.resets_device.Reads as registers-resets-device
-use Rattle.lines.proofs.flags.Flags.cleared.Reads as lines-flags-cleared
-use Rattle.lines.proofs.flags.Flags.arrived.Reads as lines-flags-arrived
-use Rattle.lines.proofs.flags.Flags.pins.Reads as lines-flags-pins
-use Rattle.lines.proofs.flags.Flags.settled.Reads as lines-flags-settled
-use Rattle.lines.proofs.interrupt.Interrupt.code.Reads as lines-interrupt-code
-use Rattle.lines.proofs.interrupt.Interrupt.pending.Reads as lines-interrupt-pending
-use Rattle.lines.proofs.interrupt.Interrupt.iir.Reads as lines-interrupt-iir
-use Rattle.lines.proofs.pending.Reads as lines-pending
+use Rattle.receiver.proofs.arrival.Gate.passes.Reads as receiver-gate-passes
+use Rattle.receiver.proofs.arrived_byte.Reads as receiver-arrived-byte
+use Rattle.receiver.proofs.heard_by.Reads as receiver-heard-by
+use Rattle.receiver.proofs.line.Line.arrived.Reads as receiver-line-arrived
+use Rattle.receiver.proofs.line.Line.read.Reads as receiver-line-read
+use Rattle.receiver.proofs.line.Line.cleared.Reads as receiver-line-cleared
+use Rattle.receiver.proofs.line.Line.quieter.Reads as receiver-line-quieter
+use Rattle.receiver.proofs.fate.Reads as receiver-fate
+use Rattle.receiver.proofs.line.Status.lsr.Reads as receiver-status-lsr
 use Rattle.lines.proofs.modem.Modem.cts.Reads as lines-modem-cts
 use Rattle.lines.proofs.modem.Modem.cts_off.Reads as lines-modem-cts-off
 use Rattle.lines.proofs.modem.Modem.changed.Reads as lines-modem-changed
 use Rattle.lines.proofs.modem.Modem.read.Reads as lines-modem-read
 use Rattle.lines.proofs.modem.Modem.msr.Reads as lines-modem-msr
-use Rattle.lines.proofs.receive.Line.arrived.Reads as lines-line-arrived
-use Rattle.lines.proofs.receive.Line.read.Reads as lines-line-read
-use Rattle.lines.proofs.receive.Line.cleared.Reads as lines-line-cleared
-use Rattle.lines.proofs.receive.Line.quieter.Reads as lines-line-quieter
-use Rattle.lines.proofs.fate.Reads as lines-fate
-use Rattle.lines.proofs.receive.Status.lsr.Reads as lines-status-lsr
 use Rattle.lines.proofs.latch_after.Reads as lines-latch-after
 use Rattle.lines.proofs.rts_asserted.Reads as lines-rts-asserted
 use Rattle.lines.proofs.spaces.Reads as lines-spaces
@@ -69,6 +61,14 @@ use Rattle.lines.proofs.thr_condition.Reads as lines-thr-condition
 use Rattle.lines.proofs.transmit.Shift.loaded.Reads as lines-shift-loaded
 use Rattle.lines.proofs.transmit.Shift.busy.Reads as lines-shift-busy
 use Rattle.lines.proofs.transmit.Shift.leaving.Reads as lines-shift-leaving
+use Rattle.interrupts.proofs.flags.Flags.cleared.Reads as interrupts-flags-cleared
+use Rattle.interrupts.proofs.flags.Flags.arrived.Reads as interrupts-flags-arrived
+use Rattle.interrupts.proofs.flags.Flags.pins.Reads as interrupts-flags-pins
+use Rattle.interrupts.proofs.flags.Flags.settled.Reads as interrupts-flags-settled
+use Rattle.interrupts.proofs.interrupt.Interrupt.code.Reads as interrupts-interrupt-code
+use Rattle.interrupts.proofs.interrupt.Interrupt.pending.Reads as interrupts-interrupt-pending
+use Rattle.interrupts.proofs.interrupt.Interrupt.iir.Reads as interrupts-interrupt-iir
+use Rattle.interrupts.proofs.pending.Reads as interrupts-pending
 use Rattle.channel.proofs.channel.Channel.pending.Reads as channel-pending
 use Rattle.channel.proofs.channel.Channel.rts.Reads as channel-rts
 use Rattle.channel.proofs.channel.Channel.status.Reads as channel-status
@@ -163,18 +163,6 @@ event-refusal-number-determined = by-equation (λ a r s h. h)
 pub event-write-determined : Determined (event-write.Post tt)
 event-write-determined = by-equation (λ a r s h. h)
 
-pub registers-gate-passes-determined : Determined (registers-gate-passes.Post tt)
-registers-gate-passes-determined = by-equation (λ a r s h. h)
-
-pub registers-settings-arrived-byte-determined : Determined (registers-settings-arrived-byte.Post tt)
-registers-settings-arrived-byte-determined = by-equation (λ a r s h. h)
-
-pub registers-settings-heard-determined : Determined (registers-settings-heard.Post tt)
-registers-settings-heard-determined = by-equation (λ a r s h. h)
-
-pub registers-settings-room-determined : Determined (registers-settings-room.Post tt)
-registers-settings-room-determined = by-equation (λ a r s h. h)
-
 pub registers-characters-reaches-determined : Determined (registers-characters-reaches.Post tt)
 registers-characters-reaches-determined = by-equation (λ a r s h. h)
 
@@ -192,6 +180,9 @@ registers-settings-halt-level-determined = by-equation (λ a r s h. h)
 
 pub registers-settings-resume-level-determined : Determined (registers-settings-resume-level.Post tt)
 registers-settings-resume-level-determined = by-equation (λ a r s h. h)
+
+pub registers-settings-room-determined : Determined (registers-settings-room.Post tt)
+registers-settings-room-determined = by-equation (λ a r s h. h)
 
 pub registers-settings-clears-determined : Determined (registers-settings-clears.Post tt)
 registers-settings-clears-determined = by-equation (λ a r s h. h)
@@ -217,29 +208,32 @@ registers-settings-with-determined = by-equation (λ a r s h. h)
 pub registers-resets-device-determined : Determined (registers-resets-device.Post tt)
 registers-resets-device-determined = by-equation (λ a r s h. h)
 
-pub lines-flags-cleared-determined : Determined (lines-flags-cleared.Post tt)
-lines-flags-cleared-determined = by-equation (λ a r s h. h)
+pub receiver-gate-passes-determined : Determined (receiver-gate-passes.Post tt)
+receiver-gate-passes-determined = by-equation (λ a r s h. h)
 
-pub lines-flags-arrived-determined : Determined (lines-flags-arrived.Post tt)
-lines-flags-arrived-determined = by-equation (λ a r s h. h)
+pub receiver-arrived-byte-determined : Determined (receiver-arrived-byte.Post tt)
+receiver-arrived-byte-determined = by-equation (λ a r s h. h)
 
-pub lines-flags-pins-determined : Determined (lines-flags-pins.Post tt)
-lines-flags-pins-determined = by-equation (λ a r s h. h)
+pub receiver-heard-by-determined : Determined (receiver-heard-by.Post tt)
+receiver-heard-by-determined = by-equation (λ a r s h. h)
 
-pub lines-flags-settled-determined : Determined (lines-flags-settled.Post tt)
-lines-flags-settled-determined = by-equation (λ a r s h. h)
+pub receiver-line-arrived-determined : Determined (receiver-line-arrived.Post tt)
+receiver-line-arrived-determined = by-equation (λ a r s h. h)
 
-pub lines-interrupt-code-determined : Determined (lines-interrupt-code.Post tt)
-lines-interrupt-code-determined = by-equation (λ a r s h. h)
+pub receiver-line-read-determined : Determined (receiver-line-read.Post tt)
+receiver-line-read-determined = by-equation (λ a r s h. h)
 
-pub lines-interrupt-pending-determined : Determined (lines-interrupt-pending.Post tt)
-lines-interrupt-pending-determined = by-equation (λ a r s h. h)
+pub receiver-line-cleared-determined : Determined (receiver-line-cleared.Post tt)
+receiver-line-cleared-determined = by-equation (λ a r s h. h)
 
-pub lines-interrupt-iir-determined : Determined (lines-interrupt-iir.Post tt)
-lines-interrupt-iir-determined = by-equation (λ a r s h. h)
+pub receiver-line-quieter-determined : Determined (receiver-line-quieter.Post tt)
+receiver-line-quieter-determined = by-equation (λ a r s h. h)
 
-pub lines-pending-determined : Determined (lines-pending.Post tt)
-lines-pending-determined = by-equation (λ a r s h. h)
+pub receiver-fate-determined : Determined (receiver-fate.Post tt)
+receiver-fate-determined = by-equation (λ a r s h. h)
+
+pub receiver-status-lsr-determined : Determined (receiver-status-lsr.Post tt)
+receiver-status-lsr-determined = by-equation (λ a r s h. h)
 
 pub lines-modem-cts-determined : Determined (lines-modem-cts.Post tt)
 lines-modem-cts-determined = by-equation (λ a r s h. h)
@@ -255,24 +249,6 @@ lines-modem-read-determined = by-equation (λ a r s h. h)
 
 pub lines-modem-msr-determined : Determined (lines-modem-msr.Post tt)
 lines-modem-msr-determined = by-equation (λ a r s h. h)
-
-pub lines-line-arrived-determined : Determined (lines-line-arrived.Post tt)
-lines-line-arrived-determined = by-equation (λ a r s h. h)
-
-pub lines-line-read-determined : Determined (lines-line-read.Post tt)
-lines-line-read-determined = by-equation (λ a r s h. h)
-
-pub lines-line-cleared-determined : Determined (lines-line-cleared.Post tt)
-lines-line-cleared-determined = by-equation (λ a r s h. h)
-
-pub lines-line-quieter-determined : Determined (lines-line-quieter.Post tt)
-lines-line-quieter-determined = by-equation (λ a r s h. h)
-
-pub lines-fate-determined : Determined (lines-fate.Post tt)
-lines-fate-determined = by-equation (λ a r s h. h)
-
-pub lines-status-lsr-determined : Determined (lines-status-lsr.Post tt)
-lines-status-lsr-determined = by-equation (λ a r s h. h)
 
 pub lines-latch-after-determined : Determined (lines-latch-after.Post tt)
 lines-latch-after-determined = by-equation (λ a r s h. h)
@@ -297,6 +273,30 @@ lines-shift-busy-determined = by-equation (λ a r s h. h)
 
 pub lines-shift-leaving-determined : Determined (lines-shift-leaving.Post tt)
 lines-shift-leaving-determined = by-equation (λ a r s h. h)
+
+pub interrupts-flags-cleared-determined : Determined (interrupts-flags-cleared.Post tt)
+interrupts-flags-cleared-determined = by-equation (λ a r s h. h)
+
+pub interrupts-flags-arrived-determined : Determined (interrupts-flags-arrived.Post tt)
+interrupts-flags-arrived-determined = by-equation (λ a r s h. h)
+
+pub interrupts-flags-pins-determined : Determined (interrupts-flags-pins.Post tt)
+interrupts-flags-pins-determined = by-equation (λ a r s h. h)
+
+pub interrupts-flags-settled-determined : Determined (interrupts-flags-settled.Post tt)
+interrupts-flags-settled-determined = by-equation (λ a r s h. h)
+
+pub interrupts-interrupt-code-determined : Determined (interrupts-interrupt-code.Post tt)
+interrupts-interrupt-code-determined = by-equation (λ a r s h. h)
+
+pub interrupts-interrupt-pending-determined : Determined (interrupts-interrupt-pending.Post tt)
+interrupts-interrupt-pending-determined = by-equation (λ a r s h. h)
+
+pub interrupts-interrupt-iir-determined : Determined (interrupts-interrupt-iir.Post tt)
+interrupts-interrupt-iir-determined = by-equation (λ a r s h. h)
+
+pub interrupts-pending-determined : Determined (interrupts-pending.Post tt)
+interrupts-pending-determined = by-equation (λ a r s h. h)
 
 pub channel-pending-determined : Determined (channel-pending.Post tt)
 channel-pending-determined = by-equation (λ a r s h. h)

@@ -17,8 +17,9 @@ use Rattle.event.specs.declared.events.Touch.the-variants as touch
 use Rattle.registers.specs.declared.register.Register.{Register}
 use Rattle.registers.specs.declared.register.Register.the-variants as register
 use Rattle.registers.specs.Windows.{registerAt}
-use Rattle.registers.specs.Arrivals.{heardOf, roomOf}
-use Rattle.lines.specs.Receive.{fateNumber}
+use Rattle.registers.specs.Queues.{roomOf}
+use Rattle.receiver.specs.Arrivals.{heardOf}
+use Rattle.receiver.specs.Line.{fateNumber}
 use Rattle.device.specs.declared.side.Side.{Side}
 use Rattle.device.specs.declared.side.Side.the-variants as side
 use Rattle.device.specs.declared.device.Device.{Device}

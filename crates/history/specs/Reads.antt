@@ -18,15 +18,15 @@ use Rattle.event.specs.declared.events.Touch.{Touch}
 use Rattle.event.specs.declared.events.Touch.the-variants as touch
 use Rattle.registers.specs.declared.register.Register.{Register}
 use Rattle.registers.specs.declared.register.Register.the-variants as register
-use Rattle.registers.specs.declared.arrival.Gate.{Gate}
-use Rattle.registers.specs.declared.arrival.Gate.the-variants as gate
 use Rattle.registers.specs.Windows.{same, registerAt}
-use Rattle.registers.specs.Arrivals.{doesPass, heardOf, roomOf}
-use Rattle.registers.specs.Queues.{clears}
+use Rattle.registers.specs.Queues.{roomOf, clears}
 use Rattle.registers.specs.Laws.{same-is}
-use Rattle.lines.specs.declared.receive.Status.{Status}
-use Rattle.lines.specs.declared.interrupt.Interrupt.{Interrupt}
-use Rattle.lines.specs.Receive.{fateNumber, lsrOf}
+use Rattle.receiver.specs.declared.arrival.Gate.{Gate}
+use Rattle.receiver.specs.declared.arrival.Gate.the-variants as gate
+use Rattle.receiver.specs.declared.line.Status.{Status}
+use Rattle.receiver.specs.Arrivals.{doesPass, heardOf}
+use Rattle.receiver.specs.Line.{fateNumber, lsrOf}
+use Rattle.interrupts.specs.declared.interrupt.Interrupt.{Interrupt}
 use Rattle.channel.specs.declared.channel.Channel.{Channel}
 use Rattle.channel.specs.Channel.{WellFormed, shownAt, statusOf, readOf}
 use Rattle.acts.specs.Touches.{arrivedCharacter, receiveChange, resetsBy}

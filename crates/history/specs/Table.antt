@@ -14,15 +14,15 @@ use Rattle.event.specs.Refusals.{refusalNumber}
 use Rattle.event.specs.Numbers.{secondAt, numberAt}
 use Rattle.registers.specs.Windows.{generalAt, enhancedAt, registerAt, tcrOpen}
 use Rattle.registers.specs.Writes.{guardOpen, ierWritten, fcrWritten, efcrWritten, takenBy, noSetting, settingOf, ifSet, withSetting, resetsDevice}
-use Rattle.registers.specs.Arrivals.{modeOf, arrivedByte, equalsXoff2, doesPass, unlessOff, receiverSet, heardPlain, heardNinth, heardAddress, heardOf, roomOf}
 use Rattle.registers.specs.Levels.{fours, transmitLevel}
-use Rattle.registers.specs.Queues.{fifoChanges, clears}
-use Rattle.lines.specs.Receive.{lineArrived, lineRead, lineCleared, fateNumber, lsrOf}
+use Rattle.registers.specs.Queues.{roomOf, fifoChanges, clears}
+use Rattle.receiver.specs.Arrivals.{modeOf, arrivedByte, equalsXoff2, doesPass, unlessOff, receiverSet, heardPlain, heardNinth, heardAddress, heardOf}
+use Rattle.receiver.specs.Line.{lineArrived, lineRead, lineCleared, fateNumber, lsrOf}
 use Rattle.lines.specs.Transmit.{spacesOf, allFree, isBusy, thrCondition}
 use Rattle.lines.specs.Rts.{latchAfter, rtsOf}
 use Rattle.lines.specs.Modem.{modemRead}
-use Rattle.lines.specs.Interrupts.{codeOf, lineStatusPending, timeoutPending, receivePending, transmitPending, modemPending, specialPending, flowPending, pendingOf, iirOf}
-use Rattle.lines.specs.Flags.{flagsCleared, flagsArrived, thrSettled, flagsSettled}
+use Rattle.interrupts.specs.Interrupts.{codeOf, lineStatusPending, timeoutPending, receivePending, transmitPending, modemPending, specialPending, flowPending, pendingOf, iirOf}
+use Rattle.interrupts.specs.Flags.{flagsCleared, flagsArrived, thrSettled, flagsSettled}
 use Rattle.channel.specs.State.{withLine, withModem, withFlags, withLatch}
 use Rattle.channel.specs.Channel.{pendingAt, shownAt, statusOf, readOf}
 use Rattle.acts.specs.Touches.{settingBy, receiveChange, sentBy, transmitChange, resetsBy}

@@ -1,8 +1,5 @@
 -- What the contracts of `lines` cite, in the order of document 01, and the bounds that an event keeps.
-pub mod Receive
 pub mod Transmit
 pub mod Rts
 pub mod Modem
-pub mod Interrupts
-pub mod Flags
 pub mod Laws

@@ -14,7 +14,7 @@ use Rattle.registers.specs.declared.settings.Setting.{Setting}
 use Rattle.registers.specs.declared.settings.Settings.{Settings}
 use Rattle.registers.specs.Windows.{place, same}
 use Rattle.registers.specs.Writes.{noSetting, ifSet, withSetting}
-use Rattle.registers.specs.Arrivals.{roomOf}
+use Rattle.registers.specs.Queues.{roomOf}
 
 -- ---- two registers of one place are one
 abbrev byPlace : List Register

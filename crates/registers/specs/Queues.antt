@@ -1,11 +1,16 @@
 -- Definitions: what the stored registers say of the queues.
 use Prim.Native.Nat.{ℕ}
 use mathlib.Core.Bool.{Bool, not, _&&_, _||_}
+use Rattle.bits.specs.Choice.{pick}
 use Rattle.bits.specs.Bits.{differs, bitAt}
 use Rattle.registers.specs.declared.register.Register.{Register}
 use Rattle.registers.specs.declared.register.Register.the-variants as register
 use Rattle.registers.specs.declared.settings.Settings.{Settings}
 use Rattle.registers.specs.Windows.{same}
+
+-- "Room is 64 with FCR 0 set, 1 without"
+unfoldable pub roomOf : Settings → ℕ
+roomOf s = pick (bitAt (s .fcr) 0) 64 1
 
 -- "a change of bit 0"
 unfoldable pub fifoChanges : Settings → ℕ → Bool

@@ -1,12 +1,9 @@
 // The stored registers of a channel, a machine of their own: what they become depends on them and the event alone.
-mod arrival;
 mod levels;
 mod queues;
 mod register;
 mod settings;
 
-pub use arrival::Gate;
-pub use arrival::Heard;
 pub use levels::Characters;
 pub use levels::Spaces;
 pub use register::Register;

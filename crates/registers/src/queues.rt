@@ -2,11 +2,19 @@
 use crate::register::Register;
 use crate::settings::Settings;
 use bits::bit;
+use bits::chosen;
 use bits::differ;
 ghost use mathlib.Core.Path.{_≡_};
-ghost use Rattle.registers.specs.Queues.{fifoChanges, clears, loads};
+ghost use Rattle.registers.specs.Queues.{roomOf, fifoChanges, clears, loads};
 
 impl Settings {
+    // How many characters the receive queue has room for.
+    pub fn room(self) -> u8
+        ensures { λ r. ⌜ r ≡ roomOf self ⌝ }
+    {
+        chosen(bit(self.fcr, 0), 64, 1)
+    }
+
     // Whether an FCR write turns the FIFOs on or off.
     fn fifo_changes(self, byte: u8) -> bool
         ensures { λ r. ⌜ r ≡ fifoChanges self byte ⌝ }

@@ -1,5 +1,5 @@
 use borrow.Author.Needs.{needs}
-use Rattle.registers.specs.Arrivals.{roomOf}
+use Rattle.registers.specs.Queues.{roomOf}
 use Rattle.registers.proofs.settings.Settings.room.Statement.{statement}
 use Rattle.registers.proofs.settings.Settings.room.Tie as tie
 

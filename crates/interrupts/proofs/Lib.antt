@@ -1,0 +1,2 @@
+-- What the proofs of single functions cite.
+pub mod Sums
