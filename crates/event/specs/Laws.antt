@@ -1,15 +1,10 @@
--- Laws: what follows from the definitions of numbers and events, each thing once over the number or the operand.
-use Prim.Native.Nat.{ℕ, _+_, _*_, _/_, _%_, _<_, _≤_}
-use native.Mathlib.Nat.{add-zero}
-use native.Mathlib.Numerals.{add-one}
+-- Laws: what plain numbers come to, and that an event in range is the one that its own numbers make.
+use Prim.Native.Nat.{ℕ, _<_, _≤_}
 use native.Mathlib.Omega.{arith}
-use mathlib.Core.Path.{_≡_, refl, sym, ap, _∙_}
-use mathlib.Core.Bool.{Bool, true, false, _||_}
-use mathlib.Core.List.{List, [], _∷_, _++_, append-assoc}
-use lib.ListN.{length, getD, drop, length-drop, length-append}
-use lib.Seq.{getD-drop, drop-cons, drop-drop, drop-append-seam}
-use lib.Dec.{eqb, ltb, leb}
-use borrow.Author.Tests.{lt-ltb, le-ltb, lt-leb, ne-eqb, leb-false, eqb-true, eqb-false, ltb-true, ltb-false}
+use mathlib.Core.Path.{_≡_, refl}
+use mathlib.Core.Bool.{Bool}
+use lib.Dec.{eqb, ltb}
+use borrow.Author.Tests.{le-ltb, eqb-true, eqb-false, ltb-true, ltb-false}
 use Rattle.bits.specs.Choice.{pick, pick-by}
 use Rattle.event.specs.declared.refusal.Refusal.{Refusal}
 use Rattle.event.specs.declared.events.Touch.{Touch}
@@ -18,35 +13,21 @@ use Rattle.event.specs.declared.events.Event.{Event}
 use Rattle.event.specs.declared.events.Event.the-variants as event
 use Rattle.event.specs.declared.events.Made.{Made}
 use Rattle.event.specs.declared.events.Made.the-variants as made
-use Rattle.event.specs.declared.number.Number.{Number}
-use Rattle.event.specs.declared.number.Number.the-variants as number
-use Rattle.event.specs.declared.reading.Reading.{Reading}
-use Rattle.event.specs.declared.reading.Reading.the-variants as reading
 use Rattle.event.specs.Refusals.{refusalNumber}
 use Rattle.event.specs.Events.{operandCount, onChannel, eventOf, Numbers, numbersOf, judgedOf, InRange}
-use Rattle.event.specs.Numbers.{groups, secondBroken, secondAt, numberAt, operandAt}
-use Rattle.event.specs.Reading.{andThen, placed, operandsAt, readAt}
-use Rattle.event.specs.Writing.{operandBytes, numberBytes, bytesOf}
 
--- ---- a number as it is written
-pub one-group : (n : ℕ) → n < 128 → groups n ≡ n ∷ []
-unfolding groups
-one-group n small = rw (lt-ltb n 128 small)
+-- the numbers that are looked at: 0 for the operands that the kind lacks
+abbrev pub lookedAt : Numbers → Numbers
+lookedAt n = record {
+  kind = n .kind;
+  x = pick (ltb 0 (operandCount (n .kind))) (n .x) 0;
+  y = pick (ltb 1 (operandCount (n .kind))) (n .y) 0;
+  z = pick (ltb 2 (operandCount (n .kind))) (n .z) 0;
+}
 
-pub two-groups : (n low high : ℕ) → n ≡ low % 128 + 128 * high → 128 ≤ low → low < 256 → 0 < high → groups n ≡ low ∷ high ∷ []
-unfolding groups
-two-groups n low high e marked fits some =
-    let first : n % 128 + 128 ≡ low = omega arith in
-    let second : n / 128 ≡ high = omega arith in
-    rw (le-ltb n 128 (omega arith), first, second)
-
--- an operand as an event holds it: within two groups, and 0 where the kind has none
-abbrev Operand : Bool → ℕ → Type 0
-Operand wanted n = (n < 16384) × (n ≡ pick wanted n 0)
-
--- ---- what numbers come to: an event in range whose bytes are those of the numbers, or a refusal of 3 for the kind and of 4 to 8 for an operand
-abbrev MadeOf : Numbers → Made → Type 0
-MadeOf n (made.Event e) = InRange e × (bytesOf e ≡ numberBytes n)
+-- ---- what numbers come to: an event in range whose own numbers are those that are looked at, or a refusal of 3 for the kind and of 4 to 8 for an operand
+abbrev pub MadeOf : Numbers → Made → Type 0
+MadeOf n (made.Event e) = InRange e × (numbersOf e ≡ lookedAt n)
 MadeOf n (made.Refused r) = (n .kind ≤ 8 → 4 ≤ refusalNumber r) × (refusalNumber r ≤ 8)
 
 module _ (P : Made → Type 0) where
@@ -65,7 +46,7 @@ module _ (kind x y z : ℕ) where
   P = MadeOf (record { kind = kind; x = x; y = y; z = z })
 
   on-channel-made : kind ≤ 8 → (kind ≡ 6 → ⊥) → (kind ≡ 7 → ⊥) → x ≤ 1 → P (onChannel kind x y z)
-  unfolding onChannel bytesOf
+  unfolding onChannel
   on-channel-made known not-6 not-7 channel =
       in-turn P kind 0 (omega arith)
       (λ k. within P 15 y (λ _. omega arith) (λ address. within P 255 z (λ _. omega arith) (λ byte. (omega arith, simp k))))
@@ -81,8 +62,8 @@ module _ (kind x y z : ℕ) where
       (λ k. (omega arith, simp k))
       (λ from. let k : kind ≡ 8 = omega arith in (omega arith, simp k)))))))
 
-  made-of : P (eventOf kind x y z)
-  unfolding eventOf bytesOf
+  pub made-of : P (eventOf kind x y z)
+  unfolding eventOf
   made-of =
       within P 8 kind (λ unknown. omega arith)
       (λ known. of-kind P kind 6 (λ k. (tt, simp k))
@@ -92,8 +73,12 @@ module _ (kind x y z : ℕ) where
   pub made-in-range : {e : Event} → eventOf kind x y z ≡ made.Event e → InRange e
   made-in-range made = (rw made at made-of) .0
 
+-- an operand as an event holds it: within two groups of a file, and 0 where the kind has none
+abbrev pub Operand : Bool → ℕ → Type 0
+Operand wanted n = (n < 16384) × (n ≡ pick wanted n 0)
+
 -- ---- an event in range is the one that its own numbers make; they are small, and 0 where the kind has no such operand
-abbrev Small : Numbers → Type 0
+abbrev pub Small : Numbers → Type 0
 Small n =
     (n .kind ≤ 8)
     × Operand (ltb 0 (operandCount (n .kind))) (n .x)
@@ -123,145 +108,3 @@ in-range-known event.IrqLook range = (refl, omega arith)
 
 pub in-range-judged : (e : Event) → InRange e → judgedOf e ≡ made.Event e
 in-range-judged e range = in-range-known e range .0
-
--- ---- a number or an operand that was read: it ends inside the input, and in a list of bytes it stands there as it is written
-abbrev pub Bytes : List ℕ → Type 0
-Bytes s = (i : ℕ) → getD s i 0 < 256
-
-abbrev ReadFrom : List ℕ → Bool → ℕ → Number → Type 0
-ReadFrom s wanted at (number.Value n next) =
-    (at + pick wanted 1 0 ≤ next) × (next ≤ length s) × (Bytes s → drop at s ≡ operandBytes wanted n ++ drop next s)
-ReadFrom s wanted at (number.Broken r) = refusalNumber r ≤ 2
-
-not-the-first : (a b : Bool) → a || b ≡ false → a ≡ false
-not-the-first true b h = h
-not-the-first false b h = refl
-
-first-byte : (s : List ℕ) (at : ℕ) → at < length s → drop at s ≡ getD s at 0 ∷ drop (at + 1) s
-first-byte s at inside = rw (add-one, drop-cons s at 0)
-
-module _ (s : List ℕ) (at : ℕ) where
-  small-from : at < length s → getD s at 0 < 128 → ReadFrom s true at (number.Value (getD s at 0) (at + 1))
-  small-from inside small =
-      (omega arith, omega arith, λ _. rw (one-group (getD s at 0) small) (first-byte s at inside))
-
-  large-from : at + 1 < length s → 128 ≤ getD s at 0 → (getD s (at + 1) 0 ≡ 0 → ⊥)
-      → ReadFrom s true at (number.Value (getD s at 0 % 128 + 128 * getD s (at + 1) 0) (at + 1 + 1))
-  large-from inside marked some = (
-    omega arith,
-    omega arith,
-    λ bytes.
-        rw (two-groups (getD s at 0 % 128 + 128 * getD s (at + 1) 0) (getD s at 0) (getD s (at + 1) 0) refl marked (bytes at) (omega arith))
-        (rw (first-byte s at (omega arith), first-byte s (at + 1) inside)),
-  )
-
-  number-from : ReadFrom s true at (numberAt s at)
-  unfolding numberAt secondAt
-  number-from =
-      pick-by (ReadFrom s true at) (leb (length s) at) (λ _. omega arith) (λ inside.
-      pick-by (ReadFrom s true at) (ltb (getD s at 0) 128)
-      (λ small. small-from (leb-false (length s) at inside) (ltb-true (getD s at 0) 128 small)) (λ marked.
-      pick-by (ReadFrom s true at) (leb (length s) (at + 1)) (λ _. omega arith) (λ again.
-      pick-by (ReadFrom s true at) (secondBroken (getD s (at + 1) 0)) (λ _. omega arith)
-      (λ whole. large-from (leb-false (length s) (at + 1) again) (ltb-false (getD s at 0) 128 marked) (eqb-false (getD s (at + 1) 0) 0 (not-the-first _ _ whole))))))
-
-  operand-from : (wanted : Bool) → at ≤ length s → ReadFrom s wanted at (operandAt s wanted at)
-  unfolding operandAt
-  operand-from true inside = number-from
-  operand-from false inside = (omega arith, inside, λ _. refl)
-
--- ---- what stands at a place of an input
-module _ (s : List ℕ) (at : ℕ) {byte : ℕ} {rest : List ℕ} (stands : drop at s ≡ byte ∷ rest) where
-  byte-inside : at < length s
-  byte-inside = omega (arith, length-drop at s, ap length stands)
-
-  byte-there : getD s at 0 ≡ byte
-  byte-there = rw (add-zero, stands) at (sym (getD-drop at s 0 0))
-
-  byte-past : drop (at + 1) s ≡ rest
-  byte-past = sym (drop-drop 1 at s) ∙ ap (λ (l : List ℕ). drop 1 l) stands
-
-list-past : (s : List ℕ) (at : ℕ) (l rest : List ℕ) → drop at s ≡ l ++ rest → drop (at + length l) s ≡ rest
-list-past s at l rest stands = sym (drop-drop (length l) at s) ∙ ap (drop (length l)) stands ∙ drop-append-seam l rest
-
--- ---- a number that was written reads back, and so does an operand
-module _ (s : List ℕ) (at n : ℕ) (rest : List ℕ) where
-  small-back : n < 128 → drop at s ≡ n ∷ rest → numberAt s at ≡ number.Value n (at + 1)
-  unfolding numberAt
-  small-back small stands = rw (lt-leb (length s) at (byte-inside s at stands), byte-there s at stands, lt-ltb n 128 small)
-
-  large-back : 128 ≤ n → n < 16384 → drop at s ≡ (n % 128 + 128) ∷ (n / 128) ∷ rest → numberAt s at ≡ number.Value n (at + 2)
-  unfolding numberAt secondAt
-  large-back large fits stands =
-      let second : drop (at + 1) s ≡ (n / 128) ∷ rest = byte-past s at stands in
-      let value : (n % 128 + 128) % 128 + 128 * (n / 128) ≡ n = omega arith in
-      let place : at + 1 + 1 ≡ at + 2 = omega arith in
-      rw (lt-leb (length s) at (byte-inside s at stands), byte-there s at stands, le-ltb (n % 128 + 128) 128 (omega arith))
-      (rw (lt-leb (length s) (at + 1) (byte-inside s (at + 1) second), byte-there s (at + 1) second)
-      (rw (ne-eqb (n / 128) 0 (omega arith), lt-leb 128 (n / 128) (omega arith), value, place)))
-
-  number-back : n < 16384 → drop at s ≡ groups n ++ rest → numberAt s at ≡ number.Value n (at + length (groups n))
-  unfolding groups
-  number-back fits =
-      pick-by (λ (l : List ℕ). drop at s ≡ l ++ rest → numberAt s at ≡ number.Value n (at + length l)) (ltb n 128)
-      (λ h. small-back (ltb-true n 128 h))
-      (λ h. large-back (ltb-false n 128 h) fits)
-
-  operand-back : (wanted : Bool) → Operand wanted n → drop at s ≡ operandBytes wanted n ++ rest
-      → operandAt s wanted at ≡ number.Value n (at + length (operandBytes wanted n))
-  unfolding operandAt
-  operand-back true small stands = number-back (small .0) stands
-  operand-back false small stands = rw (small .1, add-zero)
-
--- ---- numbers that were written come to what they make, at the place past them
-pub numbers-back : (s : List ℕ) (at : ℕ) (n : Numbers) (rest : List ℕ) → length s ≤ 65536 → Small n → drop at s ≡ numberBytes n ++ rest
-    → readAt s at ≡ placed (eventOf (n .kind) (n .x) (n .y) (n .z)) (at + length (numberBytes n))
-unfolding readAt operandsAt
-numbers-back s at n rest short small stands =
-    let k : List ℕ = groups (n .kind) in
-    let x : List ℕ = operandBytes (ltb 0 (operandCount (n .kind))) (n .x) in
-    let y : List ℕ = operandBytes (ltb 1 (operandCount (n .kind))) (n .y) in
-    let z : List ℕ = operandBytes (ltb 2 (operandCount (n .kind))) (n .z) in
-    let at-k : drop at s ≡ k ++ (x ++ (y ++ (z ++ rest))) = simp append-assoc at stands in
-    let at-x : drop (at + length k) s ≡ x ++ (y ++ (z ++ rest)) = list-past s at k _ at-k in
-    let at-y : drop (at + length k + length x) s ≡ y ++ (z ++ rest) = list-past s _ x _ at-x in
-    let at-z : drop (at + length k + length x + length y) s ≡ z ++ rest = list-past s _ y _ at-y in
-    let inside : at < length s = byte-inside s at (rw (one-group (n .kind) (omega arith)) at at-k) in
-    rw (le-ltb 65536 (length s) short, lt-leb (length s) at inside, number-back s at (n .kind) _ (omega arith) at-k, le-ltb 8 (n .kind) (small .0))
-    (rw (operand-back s _ (n .x) _ _ (small .1) at-x, operand-back s _ (n .y) _ _ (small .2) at-y, operand-back s _ (n .z) _ _ (small .3) at-z)
-    (ap (placed (eventOf (n .kind) (n .x) (n .y) (n .z))) (simp length-append (omega arith))))
-
--- ---- what was read: an event in range that stands there as it is written; a refusal of 4 to 8 for an event passed over; one of 1, 2, 3 or 9 that ends the run
-abbrev pub ReadingFrom : List ℕ → ℕ → Reading → Type 0
-ReadingFrom s at (reading.Event e next) = (at < next) × (next ≤ length s) × InRange e × (Bytes s → drop at s ≡ bytesOf e ++ drop next s)
-ReadingFrom s at (reading.Refused r next) = (at < next) × (next ≤ length s) × (4 ≤ refusalNumber r) × (refusalNumber r ≤ 8)
-ReadingFrom s at (reading.Ended r) = 3 < refusalNumber r → refusalNumber r ≡ 9
-ReadingFrom s at reading.End = Unit {0}
-
-module _ (s : List ℕ) (at : ℕ) where
-  read-on : (wanted : Bool) (p : ℕ) (m : Number) (f : ℕ → ℕ → Reading) → ReadFrom s wanted p m
-      → ((n next : ℕ) → ReadFrom s wanted p (number.Value n next) → ReadingFrom s at (f n next)) → ReadingFrom s at (andThen m f)
-  read-on wanted p (number.Value n next) f from then = then n next from
-  read-on wanted p (number.Broken r) f from then = omega arith
-
-  placed-from : (n : Numbers) (next : ℕ) (m : Made) → MadeOf n m → n .kind ≤ 8 → at < next → next ≤ length s
-      → (Bytes s → drop at s ≡ numberBytes n ++ drop next s) → ReadingFrom s at (placed m next)
-  placed-from n next (made.Event e) made known past inside stands = (past, inside, made .0, λ bytes. rw (made .1) (stands bytes))
-  placed-from n next (made.Refused r) made known past inside stands = (past, inside, made .0 known, made .1)
-
-  operands-from : (kind p : ℕ) → kind ≤ 8 → ReadFrom s true at (number.Value kind p) → ReadingFrom s at (operandsAt s kind p)
-  unfolding operandsAt
-  operands-from kind p known k =
-      read-on (ltb 0 (operandCount kind)) p (operandAt s (ltb 0 (operandCount kind)) p) _ (operand-from s p _ (k .1)) (λ x q kx.
-      read-on (ltb 1 (operandCount kind)) q (operandAt s (ltb 1 (operandCount kind)) q) _ (operand-from s q _ (kx .1)) (λ y r ky.
-      read-on (ltb 2 (operandCount kind)) r (operandAt s (ltb 2 (operandCount kind)) r) _ (operand-from s r _ (ky .1)) (λ z next kz.
-      placed-from _ next (eventOf kind x y z) (made-of kind x y z) known (omega arith) (kz .1) (λ bytes.
-      rw (k .2 bytes, kx .2 bytes, ky .2 bytes, kz .2 bytes) (simp append-assoc)))))
-
-  pub reading-from : ReadingFrom s at (readAt s at)
-  unfolding readAt
-  reading-from =
-      pick-by (ReadingFrom s at) (ltb 65536 (length s)) (λ _. λ _. refl) (λ _.
-      pick-by (ReadingFrom s at) (leb (length s) at) (λ _. tt) (λ _.
-      read-on true at (numberAt s at) _ (number-from s at) (λ kind p k.
-      pick-by (ReadingFrom s at) (ltb 8 kind) (λ _. omega arith) (λ known. operands-from kind p (ltb-false 8 kind known) k))))

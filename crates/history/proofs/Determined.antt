@@ -21,9 +21,9 @@ use Rattle.queue.proofs.Queue.any_mark.Reads as queue-any-mark
 use Rattle.queue.proofs.Queue.after.Reads as queue-after
 use Rattle.event.proofs.event_of.Reads as event-of
 use Rattle.event.proofs.events.Event.judged.Reads as event-judged
-use Rattle.event.proofs.read_at.Reads as event-read-at
 use Rattle.event.proofs.refusal.Refusal.number.Reads as event-refusal-number
-use Rattle.event.proofs.write.Reads as event-write
+use Rattle.file.proofs.read_at.Reads as file-read-at
+use Rattle.file.proofs.write.Reads as file-write
 use Rattle.registers.proofs.levels.Characters.reaches.Reads as registers-characters-reaches
 use Rattle.registers.proofs.levels.Spaces.reaches.Reads as registers-spaces-reaches
 use Rattle.registers.proofs.settings.Settings.receive_level.Reads as registers-settings-receive-level
@@ -153,15 +153,15 @@ event-of-determined = by-equation (λ a r s h. h)
 pub event-judged-determined : Determined (event-judged.Post tt)
 event-judged-determined = by-equation (λ a r s h. h)
 
--- at any lifetime of the input
-pub event-read-at-determined : (κs : Lfts 1) → Determined (event-read-at.Post κs)
-event-read-at-determined κs = by-equation (λ a r s h. h)
-
 pub event-refusal-number-determined : Determined (event-refusal-number.Post tt)
 event-refusal-number-determined = by-equation (λ a r s h. h)
 
-pub event-write-determined : Determined (event-write.Post tt)
-event-write-determined = by-equation (λ a r s h. h)
+-- at any lifetime of the input
+pub file-read-at-determined : (κs : Lfts 1) → Determined (file-read-at.Post κs)
+file-read-at-determined κs = by-equation (λ a r s h. h)
+
+pub file-write-determined : Determined (file-write.Post tt)
+file-write-determined = by-equation (λ a r s h. h)
 
 pub registers-characters-reaches-determined : Determined (registers-characters-reaches.Post tt)
 registers-characters-reaches-determined = by-equation (λ a r s h. h)

@@ -6,10 +6,10 @@ use mathlib.Core.List.{List, [], _∷_, _++_, map}
 use lib.ListN.{length}
 use Rattle.event.specs.declared.events.Made.{Made}
 use Rattle.event.specs.declared.events.Made.the-variants as made
-use Rattle.event.specs.declared.reading.Reading.{Reading}
-use Rattle.event.specs.declared.reading.Reading.the-variants as reading
-use Rattle.event.specs.Reading.{readAt}
-use Rattle.event.specs.Theorems.{read-in-range}
+use Rattle.file.specs.declared.reading.Reading.{Reading}
+use Rattle.file.specs.declared.reading.Reading.the-variants as reading
+use Rattle.file.specs.Reading.{readAt}
+use Rattle.file.specs.Theorems.{read-in-range}
 use Rattle.device.specs.declared.side.Side.{Side}
 use Rattle.device.specs.declared.device.Device.{Device}
 use Rattle.device.specs.declared.device.Answer.{Answer}

@@ -8,10 +8,10 @@ use Rattle.queue.specs.Queue.{emptyQueue, oldestOf, markedFrom, anyMarkOf, adds
 use Rattle.event.specs.declared.events.Event.{Event}
 use Rattle.event.specs.declared.events.Event.the-variants as event
 use Rattle.event.specs.declared.events.Touch.the-variants as touch
-use Rattle.event.specs.declared.number.Number.{Number}
-use Rattle.event.specs.declared.number.Number.the-variants as number
 use Rattle.event.specs.Refusals.{refusalNumber}
-use Rattle.event.specs.Numbers.{secondAt, numberAt}
+use Rattle.file.specs.declared.number.Number.{Number}
+use Rattle.file.specs.declared.number.Number.the-variants as number
+use Rattle.file.specs.Numbers.{secondAt, numberAt}
 use Rattle.registers.specs.Windows.{generalAt, enhancedAt, registerAt, tcrOpen}
 use Rattle.registers.specs.Writes.{guardOpen, ierWritten, fcrWritten, efcrWritten, takenBy, noSetting, settingOf, ifSet, withSetting, resetsDevice}
 use Rattle.registers.specs.Levels.{fours, transmitLevel}

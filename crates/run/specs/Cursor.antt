@@ -5,9 +5,9 @@ use mathlib.Core.List.{List, [], _++_}
 use lib.ListN.{length}
 use Rattle.bits.specs.Choice.{pick}
 use Rattle.event.specs.declared.events.Made.the-variants as made
-use Rattle.event.specs.declared.reading.Reading.{Reading}
-use Rattle.event.specs.declared.reading.Reading.the-variants as reading
-use Rattle.event.specs.Reading.{readAt}
+use Rattle.file.specs.declared.reading.Reading.{Reading}
+use Rattle.file.specs.declared.reading.Reading.the-variants as reading
+use Rattle.file.specs.Reading.{readAt}
 use Rattle.device.specs.declared.device.Answer.the-variants as answer
 use Rattle.device.specs.declared.device.Outcome.{Outcome}
 use Rattle.device.specs.Reset.{newDevice}

@@ -13,13 +13,14 @@ use Rattle.event.specs.declared.refusal.Refusal.{Refusal}
 use Rattle.event.specs.declared.refusal.Refusal.the-variants as refusal
 use Rattle.event.specs.declared.events.Event.{Event}
 use Rattle.event.specs.declared.events.Made.the-variants as made
-use Rattle.event.specs.declared.reading.Reading.{Reading}
-use Rattle.event.specs.declared.reading.Reading.the-variants as reading
 use Rattle.event.specs.Refusals.{refusalNumber}
 use Rattle.event.specs.Events.{judgedOf}
-use Rattle.event.specs.Reading.{readAt}
-use Rattle.event.specs.Laws.{in-range-judged, ReadingFrom, reading-from}
-use Rattle.event.specs.Theorems.{read-in-range}
+use Rattle.event.specs.Laws.{in-range-judged}
+use Rattle.file.specs.declared.reading.Reading.{Reading}
+use Rattle.file.specs.declared.reading.Reading.the-variants as reading
+use Rattle.file.specs.Reading.{readAt}
+use Rattle.file.specs.Laws.{ReadingFrom, reading-from}
+use Rattle.file.specs.Theorems.{read-in-range}
 use Rattle.device.specs.Laws.{well-formed-new, well-formed-answered}
 use Rattle.run.specs.declared.cursor.Cursor.{Cursor}
 use Rattle.run.specs.declared.cursor.Said.the-variants as said

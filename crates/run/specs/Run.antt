@@ -3,9 +3,9 @@ use Prim.Native.Nat.{ℕ, zero, suc, _+_}
 use mathlib.Core.List.{List, [], _∷_, _++_}
 use lib.ListN.{length}
 use Rattle.event.specs.declared.events.Made.the-variants as made
-use Rattle.event.specs.declared.reading.Reading.{Reading}
-use Rattle.event.specs.declared.reading.Reading.the-variants as reading
-use Rattle.event.specs.Reading.{readAt}
+use Rattle.file.specs.declared.reading.Reading.{Reading}
+use Rattle.file.specs.declared.reading.Reading.the-variants as reading
+use Rattle.file.specs.Reading.{readAt}
 use Rattle.device.specs.declared.device.Device.{Device}
 use Rattle.device.specs.declared.device.Answer.{Answer}
 use Rattle.device.specs.declared.device.Answer.the-variants as answer

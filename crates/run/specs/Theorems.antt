@@ -9,10 +9,10 @@ use lib.ListN.{length, take, getD, length-append, List·getD-append}
 use lib.Seq.{take-append-seam}
 use Rattle.event.specs.declared.refusal.Refusal.the-variants as refusal
 use Rattle.event.specs.declared.events.Made.the-variants as made
-use Rattle.event.specs.declared.reading.Reading.{Reading}
-use Rattle.event.specs.declared.reading.Reading.the-variants as reading
-use Rattle.event.specs.Reading.{readAt}
-use Rattle.event.specs.Laws.{ReadingFrom, reading-from}
+use Rattle.file.specs.declared.reading.Reading.{Reading}
+use Rattle.file.specs.declared.reading.Reading.the-variants as reading
+use Rattle.file.specs.Reading.{readAt}
+use Rattle.file.specs.Laws.{ReadingFrom, reading-from}
 use Rattle.device.specs.declared.device.Device.{Device}
 use Rattle.device.specs.declared.device.Answer.the-variants as answer
 use Rattle.device.specs.Reset.{newDevice}

@@ -5,15 +5,16 @@ use mathlib.Core.Path.{_≡_, refl, ap}
 use mathlib.Core.List.{List, _++_}
 use lib.ListN.{length, take, drop, length-append, length-drop}
 use lib.Seq.{take-append-seam}
 use Rattle.event.specs.declared.refusal.Refusal.{Refusal}
 use Rattle.event.specs.declared.events.Event.{Event}
 use Rattle.event.specs.declared.events.Made.the-variants as made
-use Rattle.event.specs.declared.reading.Reading.the-variants as reading
 use Rattle.event.specs.Refusals.{refusalNumber}
 use Rattle.event.specs.Events.{eventOf, numbersOf, judgedOf, InRange}
-use Rattle.event.specs.Reading.{readAt}
-use Rattle.event.specs.Writing.{bytesOf, padded, wholeOf, writtenOf}
-use Rattle.event.specs.Laws.{Bytes, made-in-range, in-range-judged, in-range-known, numbers-back, ReadingFrom, reading-from}
+use Rattle.event.specs.Laws.{made-in-range, in-range-judged, in-range-known}
+use Rattle.file.specs.declared.reading.Reading.the-variants as reading
+use Rattle.file.specs.Reading.{readAt}
+use Rattle.file.specs.Writing.{bytesOf, padded, wholeOf, writtenOf}
+use Rattle.file.specs.Laws.{Bytes, numbers-back, ReadingFrom, reading-from}
 
 -- the bytes that the writer gives for numbers, up to its count, are the bytes of the event that they make
 pub written-bytes : (kind x y z : ℕ) {e : Event} → eventOf kind x y z ≡ made.Event e

@@ -1,7 +1,7 @@
 use borrow.Author.Needs.{needs}
-use Rattle.event.specs.Reading.{operandsAt}
-use Rattle.event.proofs.reading.operands_at.Statement.{statement}
-use Rattle.event.proofs.reading.operands_at.Tie as tie
+use Rattle.file.specs.Reading.{operandsAt}
+use Rattle.file.proofs.reading.operands_at.Statement.{statement}
+use Rattle.file.proofs.reading.operands_at.Tie as tie
 
 array-read-count : tie.Need-array-read-count
 array-read-count c = search needs

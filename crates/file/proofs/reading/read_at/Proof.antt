@@ -1,8 +1,8 @@
 use borrow.Author.Tests.{lt-ltb, le-ltb, le-leb, lt-leb}
 use borrow.Author.Needs.{needs}
-use Rattle.event.specs.Reading.{readAt}
-use Rattle.event.proofs.reading.read_at.Statement.{statement}
-use Rattle.event.proofs.reading.read_at.Tie as tie
+use Rattle.file.specs.Reading.{readAt}
+use Rattle.file.proofs.reading.read_at.Statement.{statement}
+use Rattle.file.proofs.reading.read_at.Tie as tie
 
 returns : tie.Need-returns
 unfolding readAt

@@ -1,6 +1,6 @@
 use borrow.Author.Needs.{needs}
-use Rattle.event.proofs.reading.at_place.Statement.{statement}
-use Rattle.event.proofs.reading.at_place.Tie as tie
+use Rattle.file.proofs.reading.at_place.Statement.{statement}
+use Rattle.file.proofs.reading.at_place.Tie as tie
 
 enum-known-made : tie.Need-enum-known-made
 enum-known-made c = search needs

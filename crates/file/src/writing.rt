@@ -1,11 +1,11 @@
 // An event's bytes, as an event file has them.
-use crate::events::Event;
-use crate::events::Made;
-use crate::events::Touch;
-use crate::events::event_of;
+use event::Event;
+use event::Made;
+use event::Touch;
+use event::event_of;
 ghost use mathlib.Core.Path.{_≡_};
 ghost use Rattle.event.specs.Events.{InRange, eventOf};
-ghost use Rattle.event.specs.Writing.{wholeOf, writtenOf};
+ghost use Rattle.file.specs.Writing.{wholeOf, writtenOf};
 
 // The least number that takes two groups.
 const TWO_GROUPS: u8 = 128;

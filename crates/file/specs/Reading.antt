@@ -4,15 +4,15 @@ use mathlib.Core.List.{List}
 use lib.ListN.{length}
 use lib.Dec.{ltb, leb}
 use Rattle.bits.specs.Choice.{pick}
 use Rattle.event.specs.declared.refusal.Refusal.the-variants as refusal
 use Rattle.event.specs.declared.events.Made.{Made}
 use Rattle.event.specs.declared.events.Made.the-variants as made
-use Rattle.event.specs.declared.number.Number.{Number}
-use Rattle.event.specs.declared.number.Number.the-variants as number
-use Rattle.event.specs.declared.reading.Reading.{Reading}
-use Rattle.event.specs.declared.reading.Reading.the-variants as reading
 use Rattle.event.specs.Events.{operandCount, eventOf}
-use Rattle.event.specs.Numbers.{numberAt, operandAt}
+use Rattle.file.specs.declared.number.Number.{Number}
+use Rattle.file.specs.declared.number.Number.the-variants as number
+use Rattle.file.specs.declared.reading.Reading.{Reading}
+use Rattle.file.specs.declared.reading.Reading.the-variants as reading
+use Rattle.file.specs.Numbers.{numberAt, operandAt}
 
 -- "1 or 2 at the number where it occurs": a broken number ends the run, and any other is read on from
 abbrev pub andThen : Number → (ℕ → ℕ → Reading) → Reading

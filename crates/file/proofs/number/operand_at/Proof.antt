@@ -1,7 +1,7 @@
 use borrow.Author.Needs.{needs}
-use Rattle.event.specs.Numbers.{operandAt}
-use Rattle.event.proofs.number.operand_at.Statement.{statement}
-use Rattle.event.proofs.number.operand_at.Tie as tie
+use Rattle.file.specs.Numbers.{operandAt}
+use Rattle.file.proofs.number.operand_at.Statement.{statement}
+use Rattle.file.proofs.number.operand_at.Tie as tie
 
 number-at-requires : tie.Need-number-at-requires
 number-at-requires c κs = search needs

@@ -6,14 +6,14 @@ use mathlib.Core.List.{List, [], _∷_, _++_}
 use lib.Dec.{ltb}
 use borrow.Author.Tests.{ltb-true, ltb-false}
 use Rattle.bits.specs.Choice.{pick, pick-by}
 use Rattle.event.specs.declared.events.Touch.{Touch}
 use Rattle.event.specs.declared.events.Touch.the-variants as touch
 use Rattle.event.specs.declared.events.Event.{Event}
 use Rattle.event.specs.declared.events.Event.the-variants as event
 use Rattle.event.specs.Events.{InRange}
-use Rattle.event.specs.Numbers.{groups}
-use Rattle.event.specs.Writing.{bytesOf}
-use Rattle.event.specs.Laws.{one-group, two-groups}
+use Rattle.file.specs.Numbers.{groups}
+use Rattle.file.specs.Writing.{bytesOf}
+use Rattle.file.specs.Laws.{one-group, two-groups}
 
 abbrev byteGroups : ℕ → List ℕ
 byteGroups byte = pick (ltb byte 128) (byte ∷ []) (byte ∷ 1 ∷ [])

@@ -6,9 +6,9 @@ use mathlib.Core.List.{List, [], _∷_}
 use lib.ListN.{length, getD}
 use lib.Dec.{eqb, ltb, leb}
 use Rattle.bits.specs.Choice.{pick}
 use Rattle.event.specs.declared.refusal.Refusal.the-variants as refusal
-use Rattle.event.specs.declared.number.Number.{Number}
-use Rattle.event.specs.declared.number.Number.the-variants as number
+use Rattle.file.specs.declared.number.Number.{Number}
+use Rattle.file.specs.declared.number.Number.the-variants as number
 
 -- a number below 16,384 as it is written
 unfoldable pub groups : ℕ → List ℕ

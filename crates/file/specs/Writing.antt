@@ -6,13 +6,13 @@ use mathlib.Core.List.{List, [], _++_}
 use lib.ListN.{length, replicate}
 use lib.Dec.{ltb}
 use Rattle.bits.specs.Choice.{pick}
 use Rattle.event.specs.declared.events.Event.{Event}
 use Rattle.event.specs.declared.events.Made.{Made}
 use Rattle.event.specs.declared.events.Made.the-variants as made
-use Rattle.event.specs.declared.writing.Written.{Written}
 use Rattle.event.specs.Refusals.{refusalNumber}
 use Rattle.event.specs.Events.{operandCount, Numbers, numbersOf}
-use Rattle.event.specs.Numbers.{groups}
+use Rattle.file.specs.declared.writing.Written.{Written}
+use Rattle.file.specs.Numbers.{groups}
 
 -- an operand that the kind has, as it is written; nothing where it has none
 abbrev pub operandBytes : Bool → ℕ → List ℕ

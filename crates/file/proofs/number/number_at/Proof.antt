@@ -1,8 +1,8 @@
 use borrow.Author.Tests.{ne-eqb, lt-ltb, le-ltb, le-leb, lt-leb}
 use borrow.Author.Needs.{needs}
-use Rattle.event.specs.Numbers.{numberAt, secondAt}
-use Rattle.event.proofs.number.number_at.Statement.{statement}
-use Rattle.event.proofs.number.number_at.Tie as tie
+use Rattle.file.specs.Numbers.{numberAt, secondAt}
+use Rattle.file.proofs.number.number_at.Statement.{statement}
+use Rattle.file.proofs.number.number_at.Tie as tie
 
 returns : tie.Need-returns
 unfolding numberAt secondAt

@@ -1,7 +1,7 @@
 // A number of an event file: one or two groups of seven bits, lowest first, shortest form only.
-use crate::refusal::Refusal;
+use event::Refusal;
 ghost use mathlib.Core.Path.{_≡_};
-ghost use Rattle.event.specs.Numbers.{numberAt, operandAt};
+ghost use Rattle.file.specs.Numbers.{numberAt, operandAt};
 
 pub enum Number {
     Value { value: u16, next: usize },

@@ -1,14 +1,14 @@
 // The event at a place of an event file.
-use crate::events::Event;
-use crate::events::Made;
-use crate::events::event_of;
 use crate::number::Number;
 use crate::number::number_at;
 use crate::number::operand_at;
-use crate::refusal::Refusal;
+use event::Event;
+use event::Made;
+use event::Refusal;
+use event::event_of;
 ghost use mathlib.Core.Path.{_≡_};
 ghost use Prim.Native.Nat.{_<_};
-ghost use Rattle.event.specs.Reading.{operandsAt, readAt, placed};
+ghost use Rattle.file.specs.Reading.{operandsAt, readAt, placed};
 
 const LIMIT: usize = 65536;
 

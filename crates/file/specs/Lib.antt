@@ -1,0 +1,6 @@
+-- What the contracts of `file` cite, in the order of document 01's "Event file and refusal numbers", and the theorems on it.
+pub mod Numbers
+pub mod Reading
+pub mod Writing
+pub mod Laws
+pub mod Theorems
