@@ -5,7 +5,6 @@ use channel::Channel;
 use channel::State;
 use event::Touch;
 use lines::Shift;
-use lines::spaces;
 use queue::Character;
 use queue::Moved;
 use receiver::arrived_byte;

@@ -17,7 +17,7 @@ use Rattle.device.specs.declared.device.Stepped.{Stepped}
 use Rattle.device.specs.Reset.{resetOf, resetDevice}
 use Rattle.device.specs.Device.{channelAt, withChannel, sideNumbered, touchedAt, namedStep, stepOf, answeredOf}
 use Rattle.device.specs.Laws.{otherSide}
-use Rattle.history.specs.Judge.{Ledger, Effect, Own, Other, Reset, Nothing, isSide, namedEffect, eventEffect, effectOn, metBy, elsewhere}
+use Rattle.history.specs.Judge.{Ledger, Effect, Own, Other, Reset, isSide, namedEffect, eventEffect, effectOn, metBy, elsewhere}
 use Rattle.history.specs.Demand3.{replyTo}
 
 -- an event of a channel is of its own or of the other

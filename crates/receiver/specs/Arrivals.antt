@@ -5,14 +5,14 @@ use lib.Dec.{eqb}
 use Rattle.bits.specs.Choice.{pick}
 use Rattle.bits.specs.Bits.{bitAt, replacedAt, cutTo}
 use Rattle.registers.specs.declared.register.Register.the-variants as register
+use Rattle.registers.specs.declared.settings.Setting.{Setting}
+use Rattle.registers.specs.declared.settings.Settings.{Settings}
+use Rattle.registers.specs.Writes.{noSetting}
 use Rattle.receiver.specs.declared.arrival.Gate.{Gate}
 use Rattle.receiver.specs.declared.arrival.Gate.the-variants as gate
 use Rattle.receiver.specs.declared.arrival.Heard.{Heard}
 use Rattle.receiver.specs.declared.arrival.Mode.{Mode}
 use Rattle.receiver.specs.declared.arrival.Mode.the-variants as mode
-use Rattle.registers.specs.declared.settings.Setting.{Setting}
-use Rattle.registers.specs.declared.settings.Settings.{Settings}
-use Rattle.registers.specs.Writes.{noSetting}
 
 -- "EFCR 0 clear", "EFCR 0 set, EFR 5 clear", "EFCR 0 and EFR 5 set"
 unfoldable pub modeOf : Settings → Mode

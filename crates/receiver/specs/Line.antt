@@ -6,9 +6,9 @@ use Rattle.bits.specs.Choice.{pick}
 use Rattle.bits.specs.Bits.{oneIf}
 use Rattle.registers.specs.declared.register.Register.{Register}
 use Rattle.registers.specs.declared.register.Register.the-variants as register
+use Rattle.registers.specs.Windows.{same}
 use Rattle.receiver.specs.declared.arrival.Gate.{Gate}
 use Rattle.receiver.specs.declared.arrival.Gate.the-variants as gate
-use Rattle.registers.specs.Windows.{same}
 use Rattle.receiver.specs.declared.line.Line.{Line}
 use Rattle.receiver.specs.declared.line.Status.{Status}
 

@@ -13,7 +13,7 @@ use Rattle.registers.specs.declared.register.Register.the-variants as re
 use Rattle.registers.specs.declared.settings.Setting.{Setting}
 use Rattle.registers.specs.declared.settings.Settings.{Settings}
 use Rattle.registers.specs.Windows.{place, same}
-use Rattle.registers.specs.Writes.{noSetting, ifSet, withSetting}
+use Rattle.registers.specs.Writes.{ifSet, withSetting}
 use Rattle.registers.specs.Queues.{roomOf}
 
 -- ---- two registers of one place are one
@@ -57,10 +57,6 @@ same-is r q h =
 pub closed-sets-none : (s : Settings) (set : Setting) → set .register ≡ register.Closed → withSetting s set ≡ s
 unfolding withSetting ifSet
 closed-sets-none s set closed = rw closed
-
-pub none-set : (s : Settings) → withSetting s noSetting ≡ s
-unfolding withSetting ifSet noSetting
-none-set s = refl
 
 pub room-in : (s : Settings) → roomOf s ≤ 64
 unfolding roomOf
