@@ -26,13 +26,11 @@ const TRANSMIT_ROOM: u8 = 64;
 fn lines_only(channel: Channel, state: State, reply: u16) -> Act
     ensures { λ r. ⌜ r ≡ linesAct channel state reply ⌝ }
 {
-    let rx = channel.rx;
-    let tx = channel.tx;
     Act {
         setting: Setting::none(),
         state: state,
-        rx: rx.stays(),
-        tx: tx.stays(),
+        rx: channel.rx.stays(),
+        tx: channel.tx.stays(),
         reply: reply,
         resets: false,
     }
@@ -43,32 +41,28 @@ fn sends(channel: Channel, register: Register, byte: u8) -> Moved
     requires { ⌜ WellFormed channel ⌝ }
     ensures { λ r. ⌜ r ≡ movedBy (channel .tx) (sentBy (channel .settings) register byte) 64 ⌝ }
 {
-    let settings = channel.settings;
-    let tx = channel.tx;
     if register.is(Register::RhrThr) {
         let character = Character {
             byte: byte,
             mark: 0,
         };
-        return tx.adds(true, character, TRANSMIT_ROOM);
+        return channel.tx.adds(true, character, TRANSMIT_ROOM);
     }
-    tx.clears(settings.clears(register, byte, 2))
+    channel
+        .tx
+        .clears(channel.settings.clears(register, byte, 2))
 }
 
 fn write(channel: Channel, address: u8, byte: u8) -> Act
     requires { ⌜ WellFormed channel ⌝ }
     ensures { λ r. ⌜ r ≡ writeAct channel address byte ⌝ }
 {
-    let settings = channel.settings;
-    let state = channel.state;
-    let line = state.line;
-    let rx = channel.rx;
-    let register = settings.register(address);
-    let clears = settings.clears(register, byte, 1);
+    let register = channel.settings.register(address);
+    let clears = channel.settings.clears(register, byte, 1);
     Act {
-        setting: settings.written(register, byte),
-        state: state.with_line(line.cleared(clears)),
-        rx: rx.clears(clears),
+        setting: channel.settings.written(register, byte),
+        state: channel.state.with_line(channel.state.line.cleared(clears)),
+        rx: channel.rx.clears(clears),
         tx: sends(channel, register, byte),
         reply: 0,
         resets: resets_device(register, byte),
@@ -79,22 +73,15 @@ fn read(channel: Channel, address: u8) -> Act
     requires { ⌜ WellFormed channel ⌝ }
     ensures { λ r. ⌜ r ≡ readAct channel address ⌝ }
 {
-    let settings = channel.settings;
-    let state = channel.state;
-    let line = state.line;
-    let modem = state.modem;
-    let flags = state.flags;
-    let rx = channel.rx;
-    let tx = channel.tx;
-    let register = settings.register(address);
+    let register = channel.settings.register(address);
     let shown = channel.shown(register);
-    let lined = state.with_line(line.read(register));
-    let seen = lined.with_modem(modem.read(register));
+    let lined = channel.state.with_line(channel.state.line.read(register));
+    let seen = lined.with_modem(channel.state.modem.read(register));
     Act {
         setting: Setting::none(),
-        state: seen.with_flags(flags.cleared(shown)),
-        rx: rx.takes(register.is(Register::RhrThr)),
-        tx: tx.stays(),
+        state: seen.with_flags(channel.state.flags.cleared(shown)),
+        rx: channel.rx.takes(register.is(Register::RhrThr)),
+        tx: channel.tx.stays(),
         reply: channel.gives(register, shown) as u16,
         resets: false,
     }
@@ -105,26 +92,22 @@ fn arrival(channel: Channel, byte: u8, mark: u8) -> Act
     requires { ⌜ WellFormed channel ⌝ }
     ensures { λ r. ⌜ r ≡ arrivalAct channel byte mark ⌝ }
 {
-    let settings = channel.settings;
-    let state = channel.state;
-    let line = state.line;
-    let flags = state.flags;
-    let rx = channel.rx;
-    let tx = channel.tx;
-    let heard = heard_by(settings, byte, mark);
+    let heard = heard_by(channel.settings, byte, mark);
     let gate = heard.gate;
     let setting = heard.setting;
+    let passes = gate.passes();
     let character = Character {
-        byte: arrived_byte(settings, byte, mark),
+        byte: arrived_byte(channel.settings, byte, mark),
         mark: mark,
     };
-    let moved = rx.adds(gate.passes(), character, settings.room());
-    let lined = state.with_line(line.arrived(moved.kept));
+    let moved = channel.rx.adds(passes, character, channel.settings.room());
+    let line = channel.state.line.arrived(moved.kept);
+    let lined = channel.state.with_line(line);
     Act {
         setting: setting,
-        state: lined.with_flags(flags.arrived(heard.special)),
+        state: lined.with_flags(channel.state.flags.arrived(heard.special)),
         rx: moved,
-        tx: tx.stays(),
+        tx: channel.tx.stays(),
         reply: fate(gate, moved.kept),
         resets: false,
     }
@@ -135,20 +118,15 @@ fn slot(channel: Channel) -> Act
     requires { ⌜ WellFormed channel ⌝ }
     ensures { λ r. ⌜ r ≡ slotAct channel ⌝ }
 {
-    let settings = channel.settings;
-    let state = channel.state;
-    let shift = state.shift;
-    let modem = state.modem;
-    let rx = channel.rx;
-    let tx = channel.tx;
-    let oldest = tx.oldest();
-    let loads = settings.loads(modem.cts());
+    let oldest = channel.tx.oldest();
+    let loads = channel.settings.loads(channel.state.modem.cts());
+    let shift = Shift::loaded(loads & (channel.tx.count != 0), oldest.byte);
     Act {
         setting: Setting::none(),
-        state: state.with_shift(Shift::loaded(loads & (tx.count != 0), oldest.byte)),
-        rx: rx.stays(),
-        tx: tx.takes(loads),
-        reply: shift.leaving(settings),
+        state: channel.state.with_shift(shift),
+        rx: channel.rx.stays(),
+        tx: channel.tx.takes(loads),
+        reply: channel.state.shift.leaving(channel.settings),
         resets: false,
     }
 }
@@ -157,16 +135,13 @@ fn slot(channel: Channel) -> Act
 fn pins(channel: Channel, value: u8) -> Act
     ensures { λ r. ⌜ r ≡ pinsAct channel value ⌝ }
 {
-    let settings = channel.settings;
-    let state = channel.state;
-    let modem = state.modem;
-    let flags = state.flags;
-    let moved = state.with_modem(modem.changed(value));
-    lines_only(
-        channel,
-        moved.with_flags(flags.pins(modem.cts_off(settings, value))),
-        0,
-    )
+    let modem = channel.state.modem;
+    let moved = channel.state.with_modem(modem.changed(value));
+    let flags = channel
+        .state
+        .flags
+        .pins(modem.cts_off(channel.settings, value));
+    lines_only(channel, moved.with_flags(flags), 0)
 }
 
 // A quiet character time of the receiver.
@@ -174,9 +149,11 @@ fn quiet(channel: Channel) -> Act
     requires { ⌜ WellFormed channel ⌝ }
     ensures { λ r. ⌜ r ≡ quietAct channel ⌝ }
 {
-    let state = channel.state;
-    let line = state.line;
-    lines_only(channel, state.with_line(line.quieter()), 0)
+    lines_only(
+        channel,
+        channel.state.with_line(channel.state.line.quieter()),
+        0,
+    )
 }
 
 // A look at RTS, as it is before the channel settles.
@@ -184,8 +161,7 @@ fn rts_look(channel: Channel) -> Act
     requires { ⌜ WellFormed channel ⌝ }
     ensures { λ r. ⌜ r ≡ lookAct channel ⌝ }
 {
-    let state = channel.state;
-    lines_only(channel, state, one_if(channel.rts()) as u16)
+    lines_only(channel, channel.state, one_if(channel.rts()) as u16)
 }
 
 pub fn act(channel: Channel, touch: Touch) -> Act

@@ -27,18 +27,13 @@ impl Channel {
         requires { ⌜ WellFormed self ⌝ }
         ensures { λ r. ⌜ r ≡ pendingAt self ⌝ }
     {
-        let rx = self.rx;
-        let settings = self.settings;
-        let line = self.state.line;
-        let modem = self.state.modem;
-        let flags = self.state.flags;
         pending(
-            settings,
-            line,
-            modem,
-            flags,
-            Characters(rx.count),
-            rx.any_mark(),
+            self.settings,
+            self.state.line,
+            self.state.modem,
+            self.state.flags,
+            Characters(self.rx.count),
+            self.rx.any_mark(),
         )
     }
 
@@ -47,10 +42,8 @@ impl Channel {
         requires { ⌜ WellFormed self ⌝ }
         ensures { λ r. ⌜ r ≡ rtsAsserted self ⌝ }
     {
-        let settings = self.settings;
-        let shift = self.state.shift;
-        let free = spaces(self.tx.count);
-        rts_asserted(settings, self.state.latch, shift.busy(free))
+        let busy = self.state.shift.busy(spaces(self.tx.count));
+        rts_asserted(self.settings, self.state.latch, busy)
     }
 
     // What LSR is made of.
@@ -58,16 +51,15 @@ impl Channel {
         requires { ⌜ WellFormed self ⌝ }
         ensures { λ r. ⌜ r ≡ statusOf self ⌝ }
     {
-        let rx = self.rx;
         let sent = all_free(spaces(self.tx.count));
-        let oldest = rx.oldest();
+        let oldest = self.rx.oldest();
         Status {
-            ready: rx.count != 0,
+            ready: self.rx.count != 0,
             overrun: self.state.line.overrun,
             mark: oldest.mark,
             sent: sent,
             idle: sent & !self.state.shift.full,
-            error: rx.any_mark(),
+            error: self.rx.any_mark(),
         }
     }
 
@@ -87,35 +79,28 @@ impl Channel {
         requires { ⌜ WellFormed self ⌝ }
         ensures { λ r. ⌜ r ≡ readOf self register shown ⌝ }
     {
-        let settings = self.settings;
         match register {
-            Register::RhrThr => {
-                let rx = self.rx;
-                rx.oldest().byte
-            }
-            Register::Ier => settings.ier,
-            Register::IirFcr => shown.iir(settings),
-            Register::Lcr => settings.lcr,
-            Register::Mcr => settings.mcr,
+            Register::RhrThr => self.rx.oldest().byte,
+            Register::Ier => self.settings.ier,
+            Register::IirFcr => shown.iir(self.settings),
+            Register::Lcr => self.settings.lcr,
+            Register::Mcr => self.settings.mcr,
             Register::Lsr => self.status().lsr(),
-            Register::Msr => {
-                let modem = self.state.modem;
-                modem.msr()
-            }
-            Register::Spr => settings.spr,
+            Register::Msr => self.state.modem.msr(),
+            Register::Spr => self.settings.spr,
             Register::Txlvl => spaces(self.tx.count).0,
             Register::Rxlvl => self.rx.count,
             Register::IoControl => 0x06,
-            Register::Efcr => settings.efcr,
-            Register::Tcr => settings.tcr,
-            Register::Tlr => settings.tlr,
-            Register::Dll => settings.dll,
-            Register::Dlh => settings.dlh,
-            Register::Efr => settings.efr,
-            Register::Xon1 => settings.xon1,
-            Register::Xon2 => settings.xon2,
-            Register::Xoff1 => settings.xoff1,
-            Register::Xoff2 => settings.xoff2,
+            Register::Efcr => self.settings.efcr,
+            Register::Tcr => self.settings.tcr,
+            Register::Tlr => self.settings.tlr,
+            Register::Dll => self.settings.dll,
+            Register::Dlh => self.settings.dlh,
+            Register::Efr => self.settings.efr,
+            Register::Xon1 => self.settings.xon1,
+            Register::Xon2 => self.settings.xon2,
+            Register::Xoff1 => self.settings.xoff1,
+            Register::Xoff2 => self.settings.xoff2,
             Register::Closed => 0,
         }
     }

@@ -56,9 +56,12 @@ impl Channel {
         requires { ⌜ WellFormed self ⌝ }
         ensures { λ r. ⌜ r ≡ momentAt self ⌝ }
     {
-        let settings = self.settings;
-        let shift = self.state.shift;
-        moment(settings, self.state.latch, shift, spaces(self.tx.count))
+        moment(
+            self.settings,
+            self.state.latch,
+            self.state.shift,
+            spaces(self.tx.count),
+        )
     }
 
     // What an act comes to with what is settled after it.
@@ -66,19 +69,15 @@ impl Channel {
         requires { ⌜ WellFormed self × (act .tx .count ≤ 64) ⌝ }
         ensures { λ r. ⌜ r ≡ settledOf self act ⌝ }
     {
-        let old = self.settings;
         let setting = act.setting;
         let register = setting.register;
-        let settings = old.with(setting);
-        let state = act.state;
-        let shift = state.shift;
-        let flags = state.flags;
+        let settings = self.settings.with(setting);
         let rx = act.rx;
         let tx = act.tx;
-        let latch = latch_after(settings, Characters(rx.count), state.latch);
+        let latch = latch_after(settings, Characters(rx.count), act.state.latch);
         let before = self.moment();
-        let now = moment(settings, latch, shift, spaces(tx.count));
-        let flagged = state.with_flags(flags.settled(before, now));
+        let now = moment(settings, latch, act.state.shift, spaces(tx.count));
+        let flagged = act.state.with_flags(act.state.flags.settled(before, now));
         Step {
             sets: !register.is(Register::Closed),
             settings: settings,
@@ -95,17 +94,13 @@ impl Channel {
         requires { ⌜ Fits (step .rx) × Fits (step .tx) ⌝ }
         ensures { λ r. ⌜ r ≡ afterStep self step ⌝ }
     {
-        let rx = self.rx;
-        let tx = self.tx;
         let settings = step.settings;
         let state = step.state;
-        let received = step.rx;
-        let sent = step.tx;
         Channel {
             settings: settings,
             state: state,
-            rx: rx.after(received),
-            tx: tx.after(sent),
+            rx: self.rx.after(step.rx),
+            tx: self.tx.after(step.tx),
         }
     }
 }

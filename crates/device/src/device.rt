@@ -82,19 +82,16 @@ impl Device {
         requires { ⌜ WellFormed self ⌝ }
         ensures { λ r. ⌜ r ≡ namedStep self side touch ⌝ }
     {
-        let a = self.a;
-        let b = self.b;
+        let mut device = self;
         match side {
             Side::A => {
-                let step = step(a, touch);
-                let now = a.after(step);
-                let device = Device { a: now, b: b };
+                let step = step(self.a, touch);
+                device.a = self.a.after(step);
                 device.given(step.resets, step.reply)
             }
             Side::B => {
-                let step = step(b, touch);
-                let now = b.after(step);
-                let device = Device { a: a, b: now };
+                let step = step(self.b, touch);
+                device.b = self.b.after(step);
                 device.given(step.resets, step.reply)
             }
         }

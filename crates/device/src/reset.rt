@@ -44,13 +44,9 @@ impl Device {
     pub fn reset(self) -> Device
         ensures { λ r. ⌜ r ≡ resetDevice self ⌝ }
     {
-        let a = self.a;
-        let b = self.b;
-        let reset_a = reset_channel(a);
-        let reset_b = reset_channel(b);
         Device {
-            a: reset_a,
-            b: reset_b,
+            a: reset_channel(self.a),
+            b: reset_channel(self.b),
         }
     }
 }
@@ -111,14 +107,11 @@ fn reset_lines(pins: u8) -> State
 fn reset_channel(channel: Channel) -> Channel
     ensures { λ r. ⌜ r ≡ resetOf channel ⌝ }
 {
-    let settings = channel.settings;
-    let rx = channel.rx;
-    let tx = channel.tx;
     Channel {
-        settings: reset_settings(settings),
+        settings: reset_settings(channel.settings),
         state: reset_lines(channel.state.modem.pins),
-        rx: rx.after(rx.clears(true)),
-        tx: tx.after(tx.clears(true)),
+        rx: channel.rx.after(channel.rx.clears(true)),
+        tx: channel.tx.after(channel.tx.clears(true)),
     }
 }
 

@@ -69,13 +69,16 @@ impl Cursor {
         }
     }
 
-    // The same with the run over.
-    fn ended(self) -> Cursor
-        ensures { λ r. ⌜ r ≡ endedAt self ⌝ }
+    // The run over, with what is said last.
+    fn ended(self, said: Said) -> Progress
+        ensures { λ r. ⌜ r ≡ record { cursor = endedAt self; said = said } ⌝ }
     {
-        let mut next = self;
-        next.over = true;
-        next
+        let mut cursor = self;
+        cursor.over = true;
+        Progress {
+            cursor: cursor,
+            said: said,
+        }
     }
 
     // After an event that ends before a place.
@@ -83,8 +86,7 @@ impl Cursor {
         requires { ⌜ WellFormed self ⌝ }
         ensures { λ r. ⌜ r ≡ goingOn self next (answeredOf (self .device) (judgedOf event)) ⌝ }
     {
-        let device = self.device;
-        let done = device.step(event);
+        let done = self.device.step(event);
         let now = done.device;
         let answer = done.answer;
         let cursor = Cursor {
@@ -128,14 +130,8 @@ impl Cursor {
         match read_at(input, self.place) {
             Reading::Event { event, next } => self.answered(event, next),
             Reading::Refused { refusal, next } => self.passed_over(refusal, next),
-            Reading::Ended(refusal) => Progress {
-                cursor: self.ended(),
-                said: Said::Answer(Answer::Refused(refusal)),
-            },
-            Reading::End => Progress {
-                cursor: self.ended(),
-                said: Said::Nothing,
-            },
+            Reading::Ended(refusal) => self.ended(Said::Answer(Answer::Refused(refusal))),
+            Reading::End => self.ended(Said::Nothing),
         }
     }
 

@@ -10,17 +10,17 @@ use Rattle.acts.proofs.kinds.arrival.Tie as tie
 heard-by-requires : tie.Need-heard-by-requires
 heard-by-requires c κs = search needs
 
-arrived-byte-requires : tie.Need-arrived-byte-requires
-arrived-byte-requires c κs = search needs
-
 passes-requires : tie.Need-passes-requires
 passes-requires c κs = search needs
+
+arrived-byte-requires : tie.Need-arrived-byte-requires
+arrived-byte-requires c κs = search needs
 
 room-requires : tie.Need-room-requires
 room-requires c κs = search needs
 
 adds-requires : tie.Need-adds-requires
-adds-requires c κs = (c .before .before .before .before .before .before .before .before .before .before .before .pre .rx-in, rw (c .room .ensures) (room-in _))
+adds-requires c κs = (c .before .before .before .before .before .pre .rx-in, rw (c .room .ensures) (room-in _))
 
 arrived-requires : tie.Need-arrived-requires
 arrived-requires c κs = search needs
@@ -42,15 +42,15 @@ fate-requires c κs = search needs
 
 returns : tie.Need-returns
 unfolding arrivalAct actWith settingBy receiveChange transmitChange resetsBy movedBy
-returns c = simp (c .fate .ensures, c .before .stays .ensures, c .before .before .with-flags .ensures, c .before .before .before .arrived2 .ensures, c .before .before .before .before .with-line .ensures, c .before .before .before .before .before .arrived .ensures, c .before .before .before .before .before .before .adds .ensures, c .before .before .before .before .before .before .before .room .ensures, c .before .before .before .before .before .before .before .before .passes .ensures, c .before .before .before .before .before .before .before .before .before .arrived-byte .ensures, c .before .before .before .before .before .before .before .before .before .before .before .heard-by .ensures, moved-if)
+returns c = simp (c .fate .ensures, c .before .stays .ensures, c .before .before .with-flags .ensures, c .before .before .before .arrived2 .ensures, c .before .before .before .before .with-line .ensures, c .before .before .before .before .before .arrived .ensures, c .before .before .before .before .before .before .adds .ensures, c .before .before .before .before .before .before .before .room .ensures, c .before .before .before .before .before .before .before .before .arrived-byte .ensures, c .before .before .before .before .before .before .before .before .before .passes .ensures, c .before .before .before .before .before .before .before .before .before .before .before .heard-by .ensures, moved-if)
 
 pub arrival-spec : {M : Type 1} → statement M
 arrival-spec =
     tie.close
     (tie.spec
     heard-by-requires
-    arrived-byte-requires
     passes-requires
+    arrived-byte-requires
     room-requires
     adds-requires
     arrived-requires

@@ -37,16 +37,16 @@ is-requires : tie.Need-is-requires
 is-requires c κs = search needs
 
 takes-requires : tie.Need-takes-requires
-takes-requires c κs = c .before .before .before .before .before .before .before .before .before .before .before .before .before .before .before .before .before .pre .rx-in
+takes-requires c κs = c .before .before .before .before .before .before .before .before .before .before .pre .rx-in
 
 stays-requires : tie.Need-stays-requires
 stays-requires c κs = search needs
 
 gives-requires : tie.Need-gives-requires
-gives-requires c κs = c .before .before .before .before .before .before .before .before .before .before .before .before .before .before .before .before .before .before .before .pre
+gives-requires c κs = c .before .before .before .before .before .before .before .before .before .before .before .before .pre
 
-cast-t24 : tie.Need-cast-t24
-cast-t24 c = search needs
+cast-t17 : tie.Need-cast-t17
+cast-t17 c = search needs
 
 returns : tie.Need-returns
 unfolding readAct actWith settingBy receiveChange transmitChange resetsBy movedBy
@@ -69,5 +69,5 @@ read-spec =
     takes-requires
     stays-requires
     gives-requires
-    cast-t24
+    cast-t17
     returns)

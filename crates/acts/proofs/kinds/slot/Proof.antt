@@ -15,11 +15,11 @@ cts-requires c κs = search needs
 loads-requires : tie.Need-loads-requires
 loads-requires c κs = search needs
 
-none-requires : tie.Need-none-requires
-none-requires c κs = search needs
-
 loaded-requires : tie.Need-loaded-requires
 loaded-requires c κs = search needs
+
+none-requires : tie.Need-none-requires
+none-requires c κs = search needs
 
 with-shift-requires : tie.Need-with-shift-requires
 with-shift-requires c κs = search needs
@@ -28,14 +28,14 @@ stays-requires : tie.Need-stays-requires
 stays-requires c κs = search needs
 
 takes-requires : tie.Need-takes-requires
-takes-requires c κs = c .before .before .before .before .before .before .before .before .before .before .before .before .before .before .pre .tx-in
+takes-requires c κs = c .before .before .before .before .before .before .before .before .pre .tx-in
 
 leaving-requires : tie.Need-leaving-requires
 leaving-requires c κs = search needs
 
 returns : tie.Need-returns
 unfolding slotAct actWith settingBy receiveChange transmitChange resetsBy movedBy
-returns c = simp (c .leaving .ensures, c .before .takes .ensures, c .before .before .stays .ensures, c .before .before .before .with-shift .ensures, c .before .before .before .before .loaded .ensures, c .before .before .before .before .before .before .none .ensures, c .before .before .before .before .before .before .before .loads .ensures, c .before .before .before .before .before .before .before .before .cts .ensures, c .before .before .before .before .before .before .before .before .before .oldest .ensures, moved-if)
+returns c = simp (c .leaving .ensures, c .before .takes .ensures, c .before .before .stays .ensures, c .before .before .before .with-shift .ensures, c .before .before .before .before .none .ensures, c .before .before .before .before .before .loaded .ensures, c .before .before .before .before .before .before .before .loads .ensures, c .before .before .before .before .before .before .before .before .cts .ensures, c .before .before .before .before .before .before .before .before .before .oldest .ensures, moved-if)
 
 pub slot-spec : {M : Type 1} → statement M
 slot-spec =
@@ -44,8 +44,8 @@ slot-spec =
     oldest-requires
     cts-requires
     loads-requires
-    none-requires
     loaded-requires
+    none-requires
     with-shift-requires
     stays-requires
     takes-requires

@@ -35,7 +35,7 @@ status-requires c κs = search needs
 
 lsr-requires : tie.Need-lsr-requires
 unfolding statusOf
-lsr-requires c κs = rw (c .status .ensures) (oldest-mark-below 8 _ (omega arith) (c .before .before .before .before .pre .marks-in))
+lsr-requires c κs = rw (c .status .ensures) (oldest-mark-below 8 _ (omega arith) (c .before .before .before .pre .marks-in))
 
 enum-told-7 : tie.Need-enum-told-7
 enum-told-7 c = search needs
@@ -93,7 +93,7 @@ enum-told-22 c = search needs
 
 returns : tie.Need-returns
 unfolding readOf
-returns c = simp (c .oldest .ensures, c .before .before .enum-told .given .1)
+returns c = simp (c .oldest .ensures, c .before .enum-told .given .1)
 
 returns-2 : tie.Need-returns-2
 unfolding readOf
@@ -117,7 +117,7 @@ returns-6 c = simp (c .lsr .ensures, c .before .status .ensures, c .before .befo
 
 returns-7 : tie.Need-returns-7
 unfolding readOf
-returns-7 c = simp (c .msr .ensures, c .before .before .enum-told7 .given .1)
+returns-7 c = simp (c .msr .ensures, c .before .enum-told7 .given .1)
 
 returns-8 : tie.Need-returns-8
 unfolding readOf

@@ -32,7 +32,7 @@ with-latch-requires c κs = search needs
 
 returns : tie.Need-returns
 unfolding settledOf
-returns c = simp (c .with-latch .ensures, c .before .is .ensures, c .before .before .with-flags .ensures, c .before .before .before .settled .ensures, c .before .before .before .before .moment2 .ensures, c .before .before .before .before .before .spaces .ensures, c .before .before .before .before .before .before .moment .ensures, c .before .before .before .before .before .before .before .latch-after .ensures, c .before .before .before .before .before .before .before .before .before .before .before .before .before .with .ensures)
+returns c = simp (c .with-latch .ensures, c .before .is .ensures, c .before .before .with-flags .ensures, c .before .before .before .settled .ensures, c .before .before .before .before .moment2 .ensures, c .before .before .before .before .before .spaces .ensures, c .before .before .before .before .before .before .moment .ensures, c .before .before .before .before .before .before .before .latch-after .ensures, c .before .before .before .before .before .before .before .before .before .before .with .ensures)
 
 pub settled-spec : {M : Type 1} → statement M
 settled-spec =
