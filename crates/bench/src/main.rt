@@ -60,9 +60,8 @@ fn write_next(input: &[u8], cursor: Cursor) -> Turn
 {
     let mut out = io::large_buffer();
     let filled = cursor.fill(input, &mut out);
-    let count = filled.count;
     let next = filled.cursor;
-    let written = io::write_all(STDOUT_FILENO, &out[..count]);
+    let written = io::write_all(STDOUT_FILENO, &out[..filled.count]);
     Turn {
         cursor: next,
         written: written,
@@ -78,8 +77,7 @@ fn write_answers(input: &[u8]) {
         if !turn.written {
             return;
         }
-        let next = turn.cursor;
-        cursor = next;
+        cursor = turn.cursor;
     }
 }
 

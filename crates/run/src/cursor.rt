@@ -152,12 +152,10 @@ impl Cursor {
                     count: count,
                 };
             }
-            let index = cursor.index;
             let progress = cursor.proceed(input);
             let said = progress.said;
-            let next = progress.cursor;
-            count = put_said(out, count, index, said);
-            cursor = next;
+            count = put_said(out, count, cursor.index, said);
+            cursor = progress.cursor;
             i += 1;
         }
         Filled {

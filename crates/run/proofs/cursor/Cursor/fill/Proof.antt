@@ -29,7 +29,7 @@ proceed-requires : tie.Need-proceed-requires Inv-loop μ-loop
 proceed-requires c κs = c .before .before .loop .inv .3
 
 put-said-requires : tie.Need-put-said-requires Inv-loop μ-loop
-put-said-requires c κs = (omega (arith, c .before .before .before .before .before .loop .inv .3 .index-in, c .before .before .before .before .before .loop .inv .3 .place-in), omega arith)
+put-said-requires c κs = (omega (arith, c .before .before .before .before .loop .inv .3 .index-in, c .before .before .before .before .loop .inv .3 .place-in), omega arith)
 
 add-i : tie.Need-add-i Inv-loop μ-loop
 add-i c = omega (arith, c .before .before .before .before .before .before .before .before .before .before .before .good .1)
@@ -40,10 +40,10 @@ loop-less c = omega arith
 loop-again : tie.Need-loop-again Inv-loop μ-loop
 loop-again c = (
   omega arith,
-  omega (arith, c .before .before .put-said .ensures .0 .1),
-  c .before .before .put-said .kept .0 ∙ c .before .before .before .before .before .before .before .before .loop .inv .2,
+  omega (arith, c .before .before .before .put-said .ensures .0 .1),
+  c .before .before .before .put-said .kept .0 ∙ c .before .before .before .before .before .before .before .before .loop .inv .2,
   rw (c .before .before .before .before .before .proceed .ensures) (well-formed-progress _ _ (c .before .before .before .before .before .before .before .before .loop .inv .3)),
-  filling-more _ _ _ _ _ _ _ (c .before .before .before .before .before .before .before .before .loop .inv .4) _ _ _ (c .before .before .before .before .before .proceed .ensures) (c .before .before .put-said .ensures .0 .0) (c .before .before .put-said .ensures .1),
+  filling-more _ _ _ _ _ _ _ (c .before .before .before .before .before .before .before .before .loop .inv .4) _ _ _ (c .before .before .before .before .before .proceed .ensures) (c .before .before .before .put-said .ensures .0 .0) (c .before .before .before .put-said .ensures .1),
 )
 
 same-length-2 : tie.Need-same-length-2 Inv-loop μ-loop
