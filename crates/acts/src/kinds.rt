@@ -48,9 +48,8 @@ fn sends(channel: Channel, register: Register, byte: u8) -> Moved
         };
         return channel.tx.adds(true, character, TRANSMIT_ROOM);
     }
-    channel
-        .tx
-        .clears(channel.settings.clears(register, byte, 2))
+    let clears = channel.settings.clears(register, byte, 2);
+    channel.tx.clears(clears)
 }
 
 fn write(channel: Channel, address: u8, byte: u8) -> Act
@@ -137,10 +136,8 @@ fn pins(channel: Channel, value: u8) -> Act
 {
     let modem = channel.state.modem;
     let moved = channel.state.with_modem(modem.changed(value));
-    let flags = channel
-        .state
-        .flags
-        .pins(modem.cts_off(channel.settings, value));
+    let off = modem.cts_off(channel.settings, value);
+    let flags = channel.state.flags.pins(off);
     lines_only(channel, moved.with_flags(flags), 0)
 }
 
@@ -149,11 +146,8 @@ fn quiet(channel: Channel) -> Act
     requires { ⌜ WellFormed channel ⌝ }
     ensures { λ r. ⌜ r ≡ quietAct channel ⌝ }
 {
-    lines_only(
-        channel,
-        channel.state.with_line(channel.state.line.quieter()),
-        0,
-    )
+    let line = channel.state.line.quieter();
+    lines_only(channel, channel.state.with_line(line), 0)
 }
 
 // A look at RTS, as it is before the channel settles.

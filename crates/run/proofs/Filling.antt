@@ -10,7 +10,7 @@ use Rattle.run.specs.declared.cursor.Cursor.{Cursor}
 use Rattle.run.specs.declared.cursor.Progress.{Progress}
 use Rattle.run.specs.Cursor.{progressOf, textSaid, textIn, cursorAfter, filledBy}
 use Rattle.run.specs.Laws.{cursor-sum, text-sum, cursor-more, text-more}
-use Rattle.run.proofs.Stores.{sets-append}
+use Rattle.text.proofs.Stores.{sets-append}
 
 pub record Filling (s : List ℕ) (c₀ : Cursor) (out₀ : List ℕ) (out : List ℕ) (c : Cursor) (count i : ℕ) : Type 0 where
   pub cursor-is : c ≡ cursorAfter i s c₀

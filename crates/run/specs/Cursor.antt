@@ -18,7 +18,7 @@ use Rattle.run.specs.declared.cursor.Said.{Said}
 use Rattle.run.specs.declared.cursor.Said.the-variants as said
 use Rattle.run.specs.declared.cursor.Progress.{Progress}
 use Rattle.run.specs.declared.cursor.Filled.{Filled}
-use Rattle.run.specs.Text.{lineOf}
+use Rattle.run.specs.Lines.{lineOf}
 
 -- "Of a record a contract may ask only that it is well formed, its counts, places and stored values within their bounds"
 pub record WellFormed (c : Cursor) : Type 0 where

@@ -1,13 +1,12 @@
--- Laws: what follows from the definitions: a number in decimal, how long a line can be, and a run taken step by step.
-use Prim.Native.Nat.{ℕ, zero, suc, _+_, _-_, _*_, _/_, _%_, _<_, _≤_}
+-- Laws: what follows from the definitions: how long a line can be, and a run taken step by step.
+use Prim.Native.Nat.{ℕ, zero, suc, _+_, _-_, _<_, _≤_}
 use native.Mathlib.Nat.{zero-add, suc-add}
 use native.Mathlib.Omega.{arith}
 use mathlib.Core.Path.{_≡_, refl, ap, _∙_}
 use mathlib.Core.Bool.{Bool, true, false}
-use mathlib.Core.List.{List, [], _∷_, _++_, append-nil, append-assoc}
-use lib.ListN.{length, length-append}
-use lib.Dec.{ltb}
-use borrow.Author.Tests.{lt-ltb, le-ltb, le-leb, ltb-true, ltb-false}
+use mathlib.Core.List.{List, [], _++_, append-nil, append-assoc}
+use lib.ListN.{length}
+use borrow.Author.Tests.{lt-ltb, le-ltb, le-leb}
 use Rattle.bits.specs.Choice.{pick, pick-by}
 use Rattle.event.specs.declared.refusal.Refusal.{Refusal}
 use Rattle.event.specs.declared.refusal.Refusal.the-variants as refusal
@@ -25,65 +24,12 @@ use Rattle.device.specs.Laws.{well-formed-new, well-formed-answered}
 use Rattle.run.specs.declared.cursor.Cursor.{Cursor}
 use Rattle.run.specs.declared.cursor.Said.the-variants as said
 use Rattle.run.specs.declared.cursor.Progress.{Progress}
-use Rattle.run.specs.Text.{lastDigits, decimal, lineWith, okay, refused}
+use Rattle.text.specs.Text.{lineWith}
+use Rattle.text.specs.Laws.{below-or-not, one-digit, five-digits, line-length}
+use Rattle.run.specs.Lines.{okay, refused}
 use Rattle.run.specs.Cursor.{WellFormed, newCursor, progressBy, progressOf, textSaid, textIn, cursorAfter}
 
--- a number is below another, or it is not
-pub below-or-not : {P : Type 0} (n m : ℕ) → (n < m → P) → (m ≤ n → P) → P
-below-or-not {P} n m below not-below = go (ltb n m) refl
-  where
-    go : (b : Bool) → ltb n m ≡ b → P
-    go true h = below (ltb-true n m h)
-    go false h = not-below (ltb-false n m h)
-
--- ---- a number in decimal
--- two counts of digits above the number give the same digits
-enough : (j k n : ℕ) → n < j → n < k → lastDigits j n ≡ lastDigits k n
-unfolding lastDigits
-enough zero k n a b = absurd (omega arith)
-enough (suc j) zero n a b = absurd (omega arith)
-enough (suc j) (suc k) n a b =
-    pick-by (λ (l : List ℕ). l ≡ pick (ltb n 10) ((48 + n) ∷ []) (lastDigits k (n / 10) ++ ((48 + n % 10) ∷ []))) (ltb n 10)
-    (λ h. rw h)
-    (λ h.
-    let large : 10 ≤ n = ltb-false n 10 h in
-    rw (h, enough j k (n / 10) (omega arith) (omega arith)))
-
-pub decimal-small : (n : ℕ) → n < 10 → decimal n ≡ (48 + n) ∷ []
-unfolding decimal lastDigits
-decimal-small n small = rw (lt-ltb n 10 small)
-
-pub decimal-large : (n : ℕ) → 10 ≤ n → decimal n ≡ decimal (n / 10) ++ ((48 + n % 10) ∷ [])
-unfolding decimal lastDigits
-decimal-large n large = rw (le-ltb n 10 large, enough n (suc (n / 10)) (n / 10) (omega arith) (omega arith))
-
-pub digits-more : (n : ℕ) → 10 ≤ n → length (decimal n) ≡ length (decimal (n / 10)) + 1
-digits-more n large = rw (decimal-large n large) (length-append (decimal (n / 10)) ((48 + n % 10) ∷ []))
-
--- a digit fewer for a tenth of the bound
-digits-within : (bound k n : ℕ) → 0 < k → ((m : ℕ) → m < bound → length (decimal m) ≤ k) → n < 10 * bound → length (decimal n) ≤ k + 1
-digits-within bound k n some fewer small =
-    below-or-not n 10 (λ one. rw (decimal-small n one) (omega arith)) (λ large. omega (arith, digits-more n large, fewer (n / 10) (omega arith)))
-
-pub one-digit : (n : ℕ) → n < 10 → length (decimal n) ≡ 1
-one-digit n small = rw (decimal-small n small)
-
-pub five-digits : (n : ℕ) → n < 100000 → length (decimal n) ≤ 5
-five-digits n small =
-    digits-within 10000 4 n (omega arith)
-    (λ m m-small.
-    digits-within 1000 3 m (omega arith)
-    (λ l l-small.
-    digits-within 100 2 l (omega arith) (λ k k-small. digits-within 10 1 k (omega arith) (λ d d-small. omega (arith, one-digit d d-small)) k-small) l-small)
-    m-small)
-    small
-
 -- ---- a line takes sixteen bytes at most
-pub line-length : (index : ℕ) (word : List ℕ) (number : ℕ)
-    → length (lineWith index word number) ≡ length (decimal index) + length word + length (decimal number) + 1
-unfolding lineWith
-line-length index word number = simp length-append
-
 pub okay-length : (index reply : ℕ) → index ≤ 65536 → reply < 65536 → length (lineWith index okay reply) ≤ 16
 okay-length index reply i r = rw line-length (omega (arith, five-digits index (omega arith), five-digits reply (omega arith)))
 

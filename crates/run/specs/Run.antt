@@ -12,7 +12,7 @@ use Rattle.device.specs.declared.device.Answer.the-variants as answer
 use Rattle.device.specs.declared.device.Outcome.{Outcome}
 use Rattle.device.specs.Reset.{newDevice}
 use Rattle.device.specs.Device.{answeredOf}
-use Rattle.run.specs.Text.{lineOf}
+use Rattle.run.specs.Lines.{lineOf}
 
 pub record Indexed : Type 0 where
   pub index : ℕ

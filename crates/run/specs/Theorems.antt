@@ -1,11 +1,11 @@
 -- Laws: a run ends, its answers are counted from 0, an input too long is only refused, and buffers filled one after the other
 -- hold its text.
-use Prim.Native.Nat.{ℕ, zero, suc, _+_, _-_, _*_, _/_, _%_, _<_, _≤_}
+use Prim.Native.Nat.{ℕ, zero, suc, _+_, _-_, _/_, _<_, _≤_}
 use native.Mathlib.Omega.{arith}
 use mathlib.Core.Path.{_≡_, refl, sym, ap, _∙_}
 use mathlib.Core.Bool.{true, false}
 use mathlib.Core.List.{List, [], _∷_, _++_, append-nil}
-use lib.ListN.{length, take, getD, length-append, List·getD-append}
+use lib.ListN.{length, take, length-append}
 use lib.Seq.{take-append-seam}
 use Rattle.event.specs.declared.refusal.Refusal.the-variants as refusal
 use Rattle.event.specs.declared.events.Made.the-variants as made
@@ -19,55 +19,12 @@ use Rattle.device.specs.Reset.{newDevice}
 use Rattle.device.specs.Device.{answeredOf}
 use Rattle.run.specs.declared.cursor.Cursor.{Cursor}
 use Rattle.run.specs.declared.cursor.Filled.{Filled}
-use Rattle.run.specs.Text.{lastDigits, decimal, lineWith, lineOf}
+use Rattle.text.specs.Text.{lastDigits, decimal, lineWith}
+use Rattle.text.specs.Laws.{below-or-not}
+use Rattle.run.specs.Lines.{lineOf}
 use Rattle.run.specs.Run.{Indexed, runBy, runFrom, runUpTo, runOf, linesOf, textOf}
 use Rattle.run.specs.Cursor.{newCursor, endedAt, progressBy, textSaid, textIn, cursorAfter, filledBy}
-use Rattle.run.specs.Laws.{below-or-not, decimal-small, decimal-large, long-refused, past-the-end, going-progress, over-silent, cursor-sum, text-sum, left, over-after}
-
--- ---- a number in decimal: digits that say the number, without leading zeros
-module _ (P : ℕ → List ℕ → Type 0) (one : (n : ℕ) → n < 10 → P n ((48 + n) ∷ []))
-    (more : (n : ℕ) (l : List ℕ) → 10 ≤ n → P (n / 10) l → P n (l ++ ((48 + n % 10) ∷ []))) where
-  by-digits : (k n : ℕ) → n < k → P n (decimal n)
-  by-digits zero n fits = absurd (omega arith)
-  by-digits (suc k) n fits =
-      below-or-not n 10 (λ small. rw (decimal-small n small) (one n small))
-      (λ large. rw (decimal-large n large) (more n (decimal (n / 10)) large (by-digits k (n / 10) (omega arith))))
-
--- the number that a list of digits says, after one that stands before them
-abbrev pub valueAfter : ℕ → List ℕ → ℕ
-valueAfter before [] = before
-valueAfter before (digit ∷ rest) = valueAfter (10 * before + (digit - 48)) rest
-
-value-more : (before : ℕ) (l : List ℕ) (digit : ℕ) → valueAfter before (l ++ (digit ∷ [])) ≡ 10 * valueAfter before l + (digit - 48)
-value-more before [] digit = refl
-value-more before (d ∷ l) digit = value-more (10 * before + (d - 48)) l digit
-
-pub decimal-says : (n : ℕ) → valueAfter 0 (decimal n) ≡ n
-decimal-says n =
-    by-digits (λ (n : ℕ) (l : List ℕ). valueAfter 0 l ≡ n) (λ n small. omega arith)
-    (λ n l large says. omega (arith, says, value-more 0 l (48 + n % 10))) (suc n) n (omega arith)
-
-abbrev pub AllDigits : List ℕ → Type 0
-AllDigits [] = Unit {0}
-AllDigits (b ∷ rest) = (48 ≤ b) × (b ≤ 57) × AllDigits rest
-
-all-digits-more : (l : List ℕ) (digit : ℕ) → AllDigits l → 48 ≤ digit → digit ≤ 57 → AllDigits (l ++ (digit ∷ []))
-all-digits-more [] digit all low high = (low, high, tt)
-all-digits-more (b ∷ l) digit all low high = (all .0, all .1, all-digits-more l digit (all .2) low high)
-
-pub decimal-digits : (n : ℕ) → AllDigits (decimal n)
-decimal-digits n =
-    by-digits (λ (n : ℕ) (l : List ℕ). AllDigits l) (λ n small. omega arith)
-    (λ n l large all. all-digits-more l (48 + n % 10) all (omega arith) (omega arith)) (suc n) n (omega arith)
-
--- the first digit is 0 only of the number 0
-pub no-leading-zero : (n : ℕ) → getD (decimal n) 0 0 ≡ 48 → n ≡ 0
-no-leading-zero n =
-    by-digits (λ (n : ℕ) (l : List ℕ). (0 < length l) × (getD l 0 0 ≡ 48 → n ≡ 0)) (λ n small. (omega arith, λ h. omega arith))
-    (λ n l large before. (
-      simp length-append (omega arith),
-      λ h. absurd (omega (arith, before .1 (sym (List·getD-append l ((48 + n % 10) ∷ []) 0 0 (before .0)) ∙ h))),
-    )) (suc n) n (omega arith) .1
+use Rattle.run.specs.Laws.{long-refused, past-the-end, going-progress, over-silent, cursor-sum, text-sum, left, over-after}
 
 -- ---- every run ends: as many steps as there are bytes are enough, and more change nothing
 module _ (s : List ℕ) where

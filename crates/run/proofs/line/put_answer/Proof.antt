@@ -1,7 +1,8 @@
 use native.Mathlib.Omega.{arith}
 use Prim.Native.Nat.{_≤_}
 use lib.ListN.{length}
-use Rattle.run.specs.Text.{lineWith, refused, lineOf}
+use Rattle.text.specs.Text.{lineWith}
+use Rattle.run.specs.Lines.{refused, lineOf}
 use Rattle.run.specs.Laws.{okay-length, refused-length}
 use borrow.Author.Needs.{needs}
 use Rattle.run.proofs.line.put_answer.Statement.{statement}

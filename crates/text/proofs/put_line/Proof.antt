@@ -2,10 +2,10 @@ use native.Mathlib.Omega.{arith}
 use mathlib.Core.Path.{_∙_}
 use lib.ListN.{length-set}
 use denote.Ref.{now}
-use Rattle.run.specs.Laws.{line-length}
-use Rattle.run.proofs.Lines.{line-stored}
-use Rattle.run.proofs.line.put_line.Statement.{statement}
-use Rattle.run.proofs.line.put_line.Tie as tie
+use Rattle.text.specs.Laws.{line-length}
+use Rattle.text.proofs.Lines.{line-stored}
+use Rattle.text.proofs.put_line.Statement.{statement}
+use Rattle.text.proofs.put_line.Tie as tie
 
 put-number-requires : tie.Need-put-number-requires
 put-number-requires c κs = omega (arith, line-length (c .before .before .before .args .index) (now (c .before .before .before .args .word)) (c .before .before .before .args .number), c .before .before .before .pre)

@@ -4,8 +4,8 @@ use mathlib.Core.Path.{_≡_}
 use mathlib.Core.List.{List, [], _∷_, _++_, append-assoc}
 use lib.ListN.{length, set}
 use lib.Seq.{sets}
-use Rattle.run.specs.Text.{decimal, lineWith}
-use Rattle.run.proofs.Stores.{sets-append}
+use Rattle.text.specs.Text.{decimal, lineWith}
+use Rattle.text.proofs.Stores.{sets-append}
 
 pub line-stored : (l indexed worded numbered : List ℕ) (at a b e index number : ℕ) (word : List ℕ)
     → a ≡ at + length (decimal index) → indexed ≡ sets l at (decimal index)

@@ -5,13 +5,13 @@ use mathlib.Core.Path.{_∙_}
 use lib.ListN.{length-set}
 use borrow.Fn.Kinds.{In}
 use borrow.Fn.PlainCycle.{Measures, is, falls, and}
-use Rattle.run.specs.Laws.{one-digit, digits-more}
-use Rattle.run.proofs.Digits.{digit-stored, digits-stored}
-use Rattle.run.proofs.line.put_number.Reads as put-number
-use Rattle.run.proofs.line.put_number.Kinds as put-number-kinds
-use Rattle.run.proofs.line.+put_number.Lts-put_number as put-number-lts
-use Rattle.run.proofs.line.+put_number.{statement}
-use Rattle.run.proofs.line.+put_number.Tie.{close}
+use Rattle.text.specs.Laws.{one-digit, digits-more}
+use Rattle.text.proofs.Digits.{digit-stored, digits-stored}
+use Rattle.text.proofs.put_number.Reads as put-number
+use Rattle.text.proofs.put_number.Kinds as put-number-kinds
+use Rattle.text.proofs.+put_number.Lts-put_number as put-number-lts
+use Rattle.text.proofs.+put_number.{statement}
+use Rattle.text.proofs.+put_number.Tie.{close}
 
 abbrev μ-put-number : Measures 1 put-number-kinds.ps ℕ
 μ-put-number κs a = a .1 .1 .0

@@ -4,9 +4,9 @@ use native.Mathlib.Omega.{arith}
 use mathlib.Core.Path.{_≡_, refl}
 use lib.ListN.{length, take, length-set}
 use lib.Seq.{sets}
-use Rattle.run.proofs.Stores.{stored-more, stored-all}
-use Rattle.run.proofs.line.put_text.Statement.{statement}
-use Rattle.run.proofs.line.put_text.Tie as tie
+use Rattle.text.proofs.Stores.{stored-more, stored-all}
+use Rattle.text.proofs.put_text.Statement.{statement}
+use Rattle.text.proofs.put_text.Tie as tie
 
 abbrev Inv-loop : tie.InvT-loop
 Inv-loop out₀ at text i₀ place₀ out i place = (place ≡ at + i) × (i ≤ length text) × (length out ≡ length out₀) × (out ≡ sets out₀ at (take i text))

@@ -1,11 +1,8 @@
--- Definitions: "one line an event: index from 0, a space, "OK" or "REFUSED", a space, the reply or refusal number"
+-- Definitions: "index from 0, a space, .., a space, the reply or refusal number": numbers in decimal, and the text of a line.
 use Prim.Native.Nat.{ℕ, zero, suc, _+_, _/_, _%_}
 use mathlib.Core.List.{List, [], _∷_, _++_}
 use lib.Dec.{ltb}
 use Rattle.bits.specs.Choice.{pick}
-use Rattle.event.specs.Refusals.{refusalNumber}
-use Rattle.device.specs.declared.device.Answer.{Answer}
-use Rattle.device.specs.declared.device.Answer.the-variants as answer
 
 -- a number in decimal, its last digits up to a count
 unfoldable pub lastDigits : ℕ → ℕ → List ℕ
@@ -19,15 +16,3 @@ decimal n = lastDigits (suc n) n
 -- an index, a word between spaces, a number, and the line feed
 unfoldable pub lineWith : ℕ → List ℕ → ℕ → List ℕ
 lineWith index word number = decimal index ++ word ++ decimal number ++ (10 ∷ [])
-
--- " OK "
-abbrev pub okay : List ℕ
-okay = 32 ∷ 79 ∷ 75 ∷ 32 ∷ []
-
--- " REFUSED "
-abbrev pub refused : List ℕ
-refused = 32 ∷ 82 ∷ 69 ∷ 70 ∷ 85 ∷ 83 ∷ 69 ∷ 68 ∷ 32 ∷ []
-
-unfoldable pub lineOf : ℕ → Answer → List ℕ
-lineOf index (answer.Reply reply) = lineWith index okay reply
-lineOf index (answer.Refused r) = lineWith index refused (refusalNumber r)

@@ -4,9 +4,9 @@ use mathlib.Core.Path.{_≡_}
 use mathlib.Core.List.{List}
 use lib.ListN.{length, set}
 use lib.Seq.{sets}
-use Rattle.run.specs.Text.{decimal}
-use Rattle.run.specs.Laws.{decimal-small, decimal-large}
-use Rattle.run.proofs.Stores.{sets-more}
+use Rattle.text.specs.Text.{decimal}
+use Rattle.text.specs.Laws.{decimal-small, decimal-large}
+use Rattle.text.proofs.Stores.{sets-more}
 
 pub digit-stored : (l : List ℕ) (at n : ℕ) → n < 10 → set l at (48 + n) ≡ sets l at (decimal n)
 digit-stored l at n small = rw (decimal-small n small)
