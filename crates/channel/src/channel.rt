@@ -42,8 +42,10 @@ impl Channel {
         requires { ⌜ WellFormed self ⌝ }
         ensures { λ r. ⌜ r ≡ rtsAsserted self ⌝ }
     {
-        let busy = self.state.shift.busy(spaces(self.tx.count));
-        rts_asserted(self.settings, self.state.latch, busy)
+        let settings = self.settings;
+        let shift = self.state.shift;
+        let free = spaces(self.tx.count);
+        rts_asserted(settings, self.state.latch, shift.busy(free))
     }
 
     // What LSR is made of.

@@ -19,6 +19,7 @@ use Rattle.queue.proofs.Queue.clears.Reads as queue-clears
 use Rattle.queue.proofs.Queue.oldest.Reads as queue-oldest
 use Rattle.queue.proofs.Queue.any_mark.Reads as queue-any-mark
 use Rattle.queue.proofs.Queue.after.Reads as queue-after
+use Rattle.text.proofs.put_line.Reads as text-put-line
 use Rattle.event.proofs.event_of.Reads as event-of
 use Rattle.event.proofs.events.Event.judged.Reads as event-judged
 use Rattle.event.proofs.refusal.Refusal.number.Reads as event-refusal-number
@@ -365,7 +366,10 @@ run-cursor-new-determined = by-equation (λ a r s h. h)
 abbrev pub DeterminedWith : {A R S T : Type 0} → (S → T) → (A → R → S → Type 0) → Type 0
 DeterminedWith {A} {R} {S} part allowed = (a : A) (r r′ : R) (s s′ : S) → allowed a r s → allowed a r′ s′ → (r ≡ r′) × (part s ≡ part s′)
 
--- at any lifetimes of the input and the buffer: the result, and what the buffer holds
+-- at any lifetimes of the buffer and the word, or of the input and the buffer: the result, and what the buffer holds
+pub text-put-line-determined : (κs : Lfts 2) → DeterminedWith (λ s. now (s .0)) (text-put-line.Post κs)
+text-put-line-determined κs a r r′ s s′ p q = (p .0 ∙ sym (q .0), p .1 ∙ sym (q .1))
+
 pub run-cursor-fill-determined : (κs : Lfts 2) → DeterminedWith (λ s. now (s .1 .1 .0)) (run-cursor-fill.Post κs)
 run-cursor-fill-determined κs a r r′ s s′ p q =
     let same : r ≡ r′ = p .0 ∙ sym (q .0) in
