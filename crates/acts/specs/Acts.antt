@@ -6,6 +6,7 @@ use mathlib.Core.Bool.{false, not, _&&_}
 use lib.Dec.{eqb}
 use Rattle.bits.specs.Bits.{oneIf}
 use Rattle.queue.specs.declared.Moved.{Moved}
+use Rattle.queue.specs.Change.{Change}
 use Rattle.queue.specs.Queue.{staysAs, movedBy, oldestOf}
 use Rattle.event.specs.declared.events.Touch.{Touch}
 use Rattle.event.specs.declared.events.Touch.the-variants as touch
@@ -15,7 +16,7 @@ use Rattle.registers.specs.Writes.{noSetting}
 use Rattle.registers.specs.Queues.{roomOf, clears, loads}
 use Rattle.receiver.specs.Arrivals.{heardOf}
 use Rattle.receiver.specs.Line.{lineArrived, lineRead, lineCleared, lineQuieter, fateNumber}
-use Rattle.lines.specs.Transmit.{shiftLoaded, slotReply}
+use Rattle.lines.specs.Transmit.{transmitRoom, shiftLoaded, slotReply}
 use Rattle.lines.specs.Modem.{ctsAsserted, ctsOff, pinsChanged, modemRead}
 use Rattle.interrupts.specs.Flags.{flagsCleared, flagsArrived, flagsPins}
 use Rattle.channel.specs.declared.settle.Act.{Act}
@@ -25,12 +26,15 @@ use Rattle.channel.specs.State.{withLine, withShift, withModem, withFlags}
 use Rattle.channel.specs.Channel.{rtsAsserted, shownAt, readOf}
 use Rattle.acts.specs.Touches.{settingBy, receiveChange, transmitChange, resetsBy}
 
--- what becomes of each queue; "THR write to a full queue loses the byte": the transmit queue has room for 64
+-- what becomes of each queue; "THR write to a full queue loses the byte"
 abbrev pub received : Channel → Touch → Moved
 received ch t = movedBy (ch .rx) (receiveChange (ch .settings) t) (roomOf (ch .settings))
 
+abbrev pub sentChange : Channel → Touch → Change
+sentChange ch t = transmitChange (ch .settings) (ctsAsserted (ch .state .modem)) t
+
 abbrev pub sent : Channel → Touch → Moved
-sent ch t = movedBy (ch .tx) (transmitChange (ch .settings) (ctsAsserted (ch .state .modem)) t) 64
+sent ch t = movedBy (ch .tx) (sentChange ch t) transmitRoom
 
 -- an event's act, by what becomes of the lines and the reply
 unfoldable pub actWith : Channel → Touch → State → ℕ → Act

@@ -22,14 +22,14 @@ use Rattle.registers.specs.Laws.{same-is, closed-sets-none, room-in}
 use Rattle.receiver.specs.Arrivals.{doesPass, heardOf}
 use Rattle.receiver.specs.Line.{lineArrived}
 use Rattle.receiver.specs.Laws.{quiet-read, quiet-cleared, quiet-quieter}
-use Rattle.lines.specs.Modem.{ctsAsserted}
+use Rattle.lines.specs.Transmit.{transmitRoom}
 use Rattle.lines.specs.Laws.{ModemIn, modem-read, modem-changed}
 use Rattle.channel.specs.declared.channel.Channel.{Channel}
 use Rattle.channel.specs.declared.state.State.{State}
 use Rattle.channel.specs.State.{withLine, withShift, withModem, withFlags, withLatch}
 use Rattle.channel.specs.Channel.{WellFormed}
-use Rattle.acts.specs.Touches.{settingsAfter, receiveChange, transmitChange, resetsBy}
-use Rattle.acts.specs.Acts.{received, sent, actWith, writeAct, readAct, arrivalAct, slotAct, pinsAct, quietAct, lookAct, actOf}
+use Rattle.acts.specs.Touches.{settingsAfter, receiveChange, resetsBy}
+use Rattle.acts.specs.Acts.{received, sentChange, sent, actWith, writeAct, readAct, arrivalAct, slotAct, pinsAct, quietAct, lookAct, actOf}
 use Rattle.channel.specs.Settle.{settledOf, afterStep}
 use Rattle.acts.specs.Step.{stepAt, touchedBy}
 
@@ -48,15 +48,15 @@ act-tx : (ch : Channel) (t : Touch) → actOf ch t .tx ≡ sent ch t
 unfolding actWith
 act-tx ch t = ap (λ act. act .tx) (act-shared ch t)
 
-pub act-free : (ch : Channel) (t : Touch) → WellFormed ch → actOf ch t .tx .count ≤ 64
+pub act-free : (ch : Channel) (t : Touch) → WellFormed ch → actOf ch t .tx .count ≤ transmitRoom
 unfolding afterOf
 act-free ch t ok =
     rw (act-tx ch t)
-    (well-formed-changed (ch .tx) (transmitChange (ch .settings) (ctsAsserted (ch .state .modem)) t) 64 (ok .tx-in) (omega arith) .count-in)
+    (well-formed-changed (ch .tx) (sentChange ch t) transmitRoom (ok .tx-in) (omega arith) .count-in)
 
 -- a write is told of the transmit queue before it is told what it clears
 pub sent-moved : (q : Queue) (thr clear : Bool) (c : Character)
-    → movedBy q (pick thr (Add c) (pick clear Clear Stay)) 64 ≡ pick thr (addsTo q c 64) (pick clear (clearsAll q) (staysAs q))
+    → movedBy q (pick thr (Add c) (pick clear Clear Stay)) transmitRoom ≡ pick thr (addsTo q c transmitRoom) (pick clear (clearsAll q) (staysAs q))
 unfolding movedBy
 sent-moved q true clear c = refl
 sent-moved q false true c = refl
@@ -84,7 +84,7 @@ module _ (ch : Channel) (t : Touch) where
   rx-fits = rw step-rx (fits-moved (ch .rx) (receiveChange (ch .settings) t) (roomOf (ch .settings)))
 
   pub tx-fits : Fits (stepAt ch t .tx)
-  tx-fits = rw step-tx (fits-moved (ch .tx) (transmitChange (ch .settings) (ctsAsserted (ch .state .modem)) t) 64)
+  tx-fits = rw step-tx (fits-moved (ch .tx) (sentChange ch t) transmitRoom)
 
   -- where no register is set, each holds what it held
   pub none-set : stepAt ch t .sets ≡ false → stepAt ch t .settings ≡ ch .settings
@@ -101,7 +101,7 @@ module _ (ch : Channel) (t : Touch) where
   unfolding afterStep
   touched-rx = rw step-rx
 
-  touched-tx : touchedBy ch t .tx ≡ changed (ch .tx) (transmitChange (ch .settings) (ctsAsserted (ch .state .modem)) t) 64
+  touched-tx : touchedBy ch t .tx ≡ changed (ch .tx) (sentChange ch t) transmitRoom
   unfolding afterStep
   touched-tx = rw step-tx
 
@@ -150,7 +150,7 @@ well-formed-touched ch t v ok =
       rx-in =
           rw (touched-rx ch t)
           (well-formed-changed (ch .rx) (receiveChange (ch .settings) t) (roomOf (ch .settings)) (ok .rx-in) (room-in (ch .settings)));
-      tx-in = rw (touched-tx ch t) (well-formed-changed (ch .tx) (transmitChange (ch .settings) (ctsAsserted (ch .state .modem)) t) 64 (ok .tx-in) (omega arith));
+      tx-in = rw (touched-tx ch t) (well-formed-changed (ch .tx) (sentChange ch t) transmitRoom (ok .tx-in) (omega arith));
       marks-in =
           rw (touched-rx ch t)
           (marks-below-changed 8 (ch .rx) (receiveChange (ch .settings) t) (roomOf (ch .settings)) (ok .marks-in) (received-mark (ch .settings) t v));

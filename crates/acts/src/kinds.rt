@@ -5,6 +5,7 @@ use channel::Channel;
 use channel::State;
 use event::Touch;
 use lines::Shift;
+use lines::TRANSMIT_ROOM;
 use queue::Character;
 use queue::Moved;
 use receiver::arrived_byte;
@@ -15,12 +16,10 @@ use registers::Setting;
 use registers::resets_device;
 ghost use mathlib.Core.Path.{_≡_};
 ghost use Rattle.queue.specs.Queue.{movedBy};
+ghost use Rattle.lines.specs.Transmit.{transmitRoom};
 ghost use Rattle.channel.specs.Channel.{WellFormed};
 ghost use Rattle.acts.specs.Touches.{sentBy};
 ghost use Rattle.acts.specs.Acts.{linesAct, writeAct, readAct, arrivalAct, slotAct, pinsAct, quietAct, lookAct, actOf};
-
-// How many characters the transmit queue has room for.
-const TRANSMIT_ROOM: u8 = 64;
 
 // No register is set and the queues stay.
 fn lines_only(channel: Channel, state: State, reply: u16) -> Act
@@ -39,7 +38,7 @@ fn lines_only(channel: Channel, state: State, reply: u16) -> Act
 // What a write does to the transmit queue.
 fn sends(channel: Channel, register: Register, byte: u8) -> Moved
     requires { ⌜ WellFormed channel ⌝ }
-    ensures { λ r. ⌜ r ≡ movedBy (channel .tx) (sentBy (channel .settings) register byte) 64 ⌝ }
+    ensures { λ r. ⌜ r ≡ movedBy (channel .tx) (sentBy (channel .settings) register byte) transmitRoom ⌝ }
 {
     if register.is(Register::RhrThr) {
         let character = Character {

@@ -16,6 +16,7 @@ use registers::Spaces;
 ghost use mathlib.Core.Path.{_≡_};
 ghost use Prim.Native.Nat.{_≤_};
 ghost use Rattle.queue.specs.Queue.{Fits};
+ghost use Rattle.lines.specs.Transmit.{transmitRoom};
 ghost use Rattle.channel.specs.Channel.{WellFormed};
 ghost use Rattle.channel.specs.Settle.{momentOf, momentAt, settledOf, afterStep};
 
@@ -66,7 +67,7 @@ impl Channel {
 
     // What an act comes to with what is settled after it.
     pub fn settled(self, act: Act) -> Step
-        requires { ⌜ WellFormed self × (act .tx .count ≤ 64) ⌝ }
+        requires { ⌜ WellFormed self × (act .tx .count ≤ transmitRoom) ⌝ }
         ensures { λ r. ⌜ r ≡ settledOf self act ⌝ }
     {
         let setting = act.setting;

@@ -9,13 +9,17 @@ use Rattle.registers.specs.declared.levels.Spaces.{Spaces}
 use Rattle.registers.specs.Levels.{transmitLevel}
 use Rattle.lines.specs.declared.transmit.Shift.{Shift}
 
--- "Room is 64 in both modes (house ..)." "TXLVL is free spaces."
+-- "Room is 64 in both modes (house ..)."
+abbrev pub transmitRoom : ℕ
+transmitRoom = 64
+
+-- "TXLVL is free spaces."
 unfoldable pub spacesOf : ℕ → Spaces
-spacesOf count = record { 0 = 64 - count }
+spacesOf count = record { 0 = transmitRoom - count }
 
 -- an empty queue
 unfoldable pub allFree : Spaces → Bool
-allFree free = eqb (free .0) 64
+allFree free = eqb (free .0) transmitRoom
 
 -- "the transmit queue or shift register holds something"
 unfoldable pub isBusy : Shift → Spaces → Bool

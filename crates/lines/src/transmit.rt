@@ -6,10 +6,10 @@ use registers::Settings;
 use registers::Spaces;
 ghost use mathlib.Core.Path.{_≡_};
 ghost use Prim.Native.Nat.{_≤_};
-ghost use Rattle.lines.specs.Transmit.{spacesOf, allFree, isBusy, shiftLoaded, slotReply, thrCondition};
+ghost use Rattle.lines.specs.Transmit.{transmitRoom, spacesOf, allFree, isBusy, shiftLoaded, slotReply, thrCondition};
 
-// The places of the transmit queue.
-const ROOM: u8 = 64;
+// How many characters the transmit queue has room for.
+pub const TRANSMIT_ROOM: u8 = 64;
 
 // A character that is being sent.
 #[repr(C)]
@@ -20,17 +20,17 @@ pub struct Shift {
 
 // The free spaces beside so many queued characters.
 pub fn spaces(count: u8) -> Spaces
-    requires { ⌜ count ≤ 64 ⌝ }
+    requires { ⌜ count ≤ transmitRoom ⌝ }
     ensures { λ r. ⌜ r ≡ spacesOf count ⌝ }
 {
-    Spaces(ROOM - count)
+    Spaces(TRANSMIT_ROOM - count)
 }
 
 // Whether the transmit queue is empty.
 pub fn all_free(free: Spaces) -> bool
     ensures { λ r. ⌜ r ≡ allFree free ⌝ }
 {
-    free.0 == ROOM
+    free.0 == TRANSMIT_ROOM
 }
 
 // Whether the interrupt condition of the transmit queue holds.
