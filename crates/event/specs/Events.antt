@@ -1,5 +1,6 @@
 -- Definitions: "Events and replies": the nine kinds with their operands, made from plain numbers.
 use Prim.Native.Nat.{ℕ, _<_}
+use mathlib.Core.Bool.{Bool}
 use mathlib.Core.List.{[], _∷_}
 use lib.ListN.{getD}
 use lib.Dec.{eqb, ltb}
@@ -15,6 +16,10 @@ use Rattle.event.specs.declared.events.Made.the-variants as made
 -- the column "operands" of the table of kinds, counted
 abbrev pub operandCount : ℕ → ℕ
 operandCount kind = getD (3 ∷ 2 ∷ 3 ∷ 1 ∷ 2 ∷ 1 ∷ 0 ∷ 0 ∷ 1 ∷ []) kind 0
+
+-- 3: "kind above 8"
+abbrev pub unknownKind : ℕ → Bool
+unknownKind kind = ltb 8 kind
 
 -- the refusals that an operand out of its range meets, 4 to 8
 abbrev pub channelIn : ℕ → Made → Made
@@ -50,7 +55,7 @@ onChannel kind channel y z =
 -- "judge 3 and then 4 to 8; operands that the kind lacks aren't looked at"
 unfoldable pub eventOf : ℕ → ℕ → ℕ → ℕ → Made
 eventOf kind x y z =
-    pick (ltb 8 kind) (made.Refused refusal.Kind)
+    pick (unknownKind kind) (made.Refused refusal.Kind)
     (pick (eqb kind 6) (made.Event event.Reset)
     (pick (eqb kind 7) (made.Event event.IrqLook)
     (channelIn x (onChannel kind x y z))))

@@ -7,7 +7,7 @@ use Rattle.bits.specs.Choice.{pick}
 use Rattle.event.specs.declared.refusal.Refusal.the-variants as refusal
 use Rattle.event.specs.declared.events.Made.{Made}
 use Rattle.event.specs.declared.events.Made.the-variants as made
-use Rattle.event.specs.Events.{operandCount, eventOf}
+use Rattle.event.specs.Events.{operandCount, unknownKind, eventOf}
 use Rattle.file.specs.declared.number.Number.{Number}
 use Rattle.file.specs.declared.number.Number.the-variants as number
 use Rattle.file.specs.declared.reading.Reading.{Reading}
@@ -37,4 +37,4 @@ unfoldable pub readAt : List ℕ → ℕ → Reading
 readAt s at =
     pick (ltb 65536 (length s)) (reading.Ended refusal.Long)
     (pick (leb (length s) at) reading.End
-    (andThen (numberAt s at) (λ kind next. pick (ltb 8 kind) (reading.Ended refusal.Kind) (operandsAt s kind next))))
+    (andThen (numberAt s at) (λ kind next. pick (unknownKind kind) (reading.Ended refusal.Kind) (operandsAt s kind next))))

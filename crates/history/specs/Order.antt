@@ -15,7 +15,7 @@ use Rattle.queue.specs.Change.{Change, Add, Take, Clear, Stay}
 use Rattle.queue.specs.Queue.{none}
 use Rattle.history.specs.Judge.{Tally, queued, keeps, finds, tallyAfter}
 use Rattle.history.specs.Demand3.{foundAfter}
-use Rattle.history.specs.Tally.{Within}
+use Rattle.history.specs.Tally.{ReadWithin}
 
 abbrev bytesOf : List Character → List ℕ
 bytesOf cs = map (λ c. c .byte) cs
@@ -25,7 +25,7 @@ abbrev pub InOrder : Tally → List ℕ → Type 0
 InOrder l found = found ≡ bytesOf (take (l .read) (l .kept))
 
 -- one change: a read that finds a character replies with the next unread
-pub in-order-after : (a : Change) (room : ℕ) (l : Tally) (reply : ℕ) (found : List ℕ) → Within l
+pub in-order-after : (a : Change) (room : ℕ) (l : Tally) (reply : ℕ) (found : List ℕ) → ReadWithin l
     → (a ≡ Take → reply ≡ getD (l .kept) (l .read) none .byte)
     → InOrder l found → InOrder (tallyAfter l a room) (foundAfter a l reply found)
 unfolding tallyAfter foundAfter

@@ -19,19 +19,19 @@ use Rattle.queue.specs.Laws.{length-items, items-changed}
 use Rattle.history.specs.Judge.{Tally, queued, unread, keeps, finds, tallyAfter}
 
 -- no more was read than was kept
-abbrev pub Within : Tally → Type 0
-Within l = l .read ≤ length (l .kept)
+abbrev pub ReadWithin : Tally → Type 0
+ReadWithin l = l .read ≤ length (l .kept)
 
-pub within-after : (l : Tally) (a : Change) (room : ℕ) → Within l → Within (tallyAfter l a room)
+pub within-after : (l : Tally) (a : Change) (room : ℕ) → ReadWithin l → ReadWithin (tallyAfter l a room)
 unfolding tallyAfter
-within-after l (Add c) room h = pick-by Within (keeps l room) (λ _. simp length-append (omega arith)) (λ _. h)
+within-after l (Add c) room h = pick-by ReadWithin (keeps l room) (λ _. simp length-append (omega arith)) (λ _. h)
 within-after l Take room h =
-    pick-by Within (finds l) (λ some. omega (arith, eqb-false (queued l) 0 (not-true (eqb (queued l) 0) some))) (λ _. h)
+    pick-by ReadWithin (finds l) (λ some. omega (arith, eqb-false (queued l) 0 (not-true (eqb (queued l) 0) some))) (λ _. h)
 within-after l Clear room h = omega arith
 within-after l Stay room h = h
 
 -- a change does to what is unread what it does to any list
-unread-added : (l : Tally) (c : Character) (room : ℕ) → Within l → unread (tallyAfter l (Add c) room) ≡ listAfter (unread l) (Add c) room
+unread-added : (l : Tally) (c : Character) (room : ℕ) → ReadWithin l → unread (tallyAfter l (Add c) room) ≡ listAfter (unread l) (Add c) room
 unfolding tallyAfter listAfter
 unread-added l c room h = rw length-drop (go (ltb (queued l) room))
   where
@@ -46,7 +46,7 @@ unread-taken l room =
     (λ _. sym (drop-drop 1 (l .read) (l .kept)))
     (λ none. let all : length (l .kept) ≤ l .read = omega (arith, eqb-true (queued l) 0 (not-false (eqb (queued l) 0) none)) in rw (drop-of-length-le (l .kept) all))
 
-pub unread-after : (l : Tally) (a : Change) (room : ℕ) → Within l → unread (tallyAfter l a room) ≡ listAfter (unread l) a room
+pub unread-after : (l : Tally) (a : Change) (room : ℕ) → ReadWithin l → unread (tallyAfter l a room) ≡ listAfter (unread l) a room
 unfolding tallyAfter listAfter
 unread-after l (Add c) room h = unread-added l c room h
 unread-after l Take room h = unread-taken l room
@@ -55,7 +55,7 @@ unread-after l Stay room h = refl
 
 -- a queue stands for what a tally has unread
 pub record Holds (q : Queue) (l : Tally) : Type 0 where
-  pub within : Within l
+  pub within : ReadWithin l
   pub same : items q ≡ unread l
 
 pub holds-count : {q : Queue} {l : Tally} → Holds q l → q .count ≡ queued l

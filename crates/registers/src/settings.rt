@@ -106,6 +106,12 @@ impl Setting {
     }
 }
 
+fn efcr_written(byte: u8) -> u8
+    ensures { λ r. ⌜ r ≡ efcrWritten byte ⌝ }
+{
+    replaced(replaced(byte, 0, 6, 2), 0, 3, 1)
+}
+
 impl Settings {
     fn tcr_open(self) -> bool
         ensures { λ r. ⌜ r ≡ tcrOpen self ⌝ }
@@ -156,12 +162,6 @@ impl Settings {
         chosen(self.guard_open(), stored, guarded)
     }
 
-    fn efcr_written(self, byte: u8) -> u8
-        ensures { λ r. ⌜ r ≡ efcrWritten byte ⌝ }
-    {
-        replaced(replaced(byte, 0, 6, 2), 0, 3, 1)
-    }
-
     fn divisor_written(self, old: u8, byte: u8) -> u8
         ensures { λ r. ⌜ r ≡ divisorWritten self old byte ⌝ }
     {
@@ -182,7 +182,7 @@ impl Settings {
             return self.mcr_written(byte);
         }
         if register.is(Register::Efcr) {
-            return self.efcr_written(byte);
+            return efcr_written(byte);
         }
         if register.is(Register::Dll) {
             return self.divisor_written(self.dll, byte);

@@ -1,7 +1,7 @@
 use borrow.Author.Needs.{needs}
 use Rattle.registers.specs.Writes.{efcrWritten}
-use Rattle.registers.proofs.settings.Settings.efcr_written.Statement.{statement}
-use Rattle.registers.proofs.settings.Settings.efcr_written.Tie as tie
+use Rattle.registers.proofs.settings.efcr_written.Statement.{statement}
+use Rattle.registers.proofs.settings.efcr_written.Tie as tie
 
 replaced-requires : tie.Need-replaced-requires
 replaced-requires c κs = search needs
