@@ -2,13 +2,10 @@
 use Prim.Native.Nat.{_≤_}
 use native.Mathlib.Omega.{arith}
 use mathlib.Core.Path.{_≡_, refl, ap}
-use mathlib.Core.Bool.{Bool, true, false}
+use mathlib.Core.Bool.{false}
 use borrow.Author.Tests.{not-false}
-use Rattle.bits.specs.Choice.{pick, pick-by}
-use Rattle.queue.specs.declared.Character.{Character}
-use Rattle.queue.specs.declared.Queue.{Queue}
-use Rattle.queue.specs.Change.{Add, Clear, Stay}
-use Rattle.queue.specs.Queue.{Fits, addsTo, clearsAll, staysAs, movedBy, afterOf, changed}
+use Rattle.bits.specs.Choice.{pick-by}
+use Rattle.queue.specs.Queue.{Fits, afterOf, changed}
 use Rattle.queue.specs.Laws.{well-formed-changed, MarkBelow, marks-below-changed, fits-moved}
 use Rattle.event.specs.declared.events.Touch.{Touch}
 use Rattle.event.specs.declared.events.Touch.the-variants as touch
@@ -53,14 +50,6 @@ unfolding afterOf
 act-free ch t ok =
     rw (act-tx ch t)
     (well-formed-changed (ch .tx) (sentChange ch t) transmitRoom (ok .tx-in) (omega arith) .count-in)
-
--- a write is told of the transmit queue before it is told what it clears
-pub sent-moved : (q : Queue) (thr clear : Bool) (c : Character)
-    → movedBy q (pick thr (Add c) (pick clear Clear Stay)) transmitRoom ≡ pick thr (addsTo q c transmitRoom) (pick clear (clearsAll q) (staysAs q))
-unfolding movedBy
-sent-moved q true clear c = refl
-sent-moved q false true c = refl
-sent-moved q false false c = refl
 
 -- ---- and the step
 module _ (ch : Channel) (t : Touch) where

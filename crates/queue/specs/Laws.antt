@@ -199,11 +199,10 @@ fits-moved q Take room = omega arith
 fits-moved q Clear room = omega arith
 fits-moved q Stay room = omega arith
 
--- a change that comes about on a condition
-pub moved-if : (q : Queue) (a : Change) (room : ℕ) (goes : Bool) → movedBy q (pick goes a Stay) room ≡ pick goes (movedBy q a room) (staysAs q)
-unfolding movedBy
-moved-if q a room true = refl
-moved-if q a room false = refl
+-- by one change or another, as a condition has it
+pub moved-pick : (q : Queue) (goes : Bool) (a b : Change) (room : ℕ) → movedBy q (pick goes a b) room ≡ pick goes (movedBy q a room) (movedBy q b room)
+moved-pick q true a b room = refl
+moved-pick q false a b room = refl
 
 -- ---- places are used again: however many characters come and go, the list is what the same changes make of a list
 abbrev pub allChanged : ℕ → List Change → Queue → Queue

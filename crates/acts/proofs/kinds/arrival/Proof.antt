@@ -1,7 +1,7 @@
 use Rattle.registers.specs.Laws.{room-in}
 use borrow.Author.Needs.{needs}
 use Rattle.queue.specs.Queue.{movedBy}
-use Rattle.queue.specs.Laws.{moved-if}
+use Rattle.queue.specs.Laws.{moved-pick}
 use Rattle.acts.specs.Touches.{settingBy, receiveChange, transmitChange, resetsBy}
 use Rattle.acts.specs.Acts.{actWith, arrivalAct}
 use Rattle.acts.proofs.kinds.arrival.Statement.{statement}
@@ -42,7 +42,7 @@ fate-requires c κs = search needs
 
 returns : tie.Need-returns
 unfolding arrivalAct actWith settingBy receiveChange transmitChange resetsBy movedBy
-returns c = simp (c .fate .ensures, c .before .stays .ensures, c .before .before .with-flags .ensures, c .before .before .before .arrived2 .ensures, c .before .before .before .before .with-line .ensures, c .before .before .before .before .before .arrived .ensures, c .before .before .before .before .before .before .adds .ensures, c .before .before .before .before .before .before .before .room .ensures, c .before .before .before .before .before .before .before .before .arrived-byte .ensures, c .before .before .before .before .before .before .before .before .before .passes .ensures, c .before .before .before .before .before .before .before .before .before .before .before .heard-by .ensures, moved-if)
+returns c = simp (c .fate .ensures, c .before .stays .ensures, c .before .before .with-flags .ensures, c .before .before .before .arrived2 .ensures, c .before .before .before .before .with-line .ensures, c .before .before .before .before .before .arrived .ensures, c .before .before .before .before .before .before .adds .ensures, c .before .before .before .before .before .before .before .room .ensures, c .before .before .before .before .before .before .before .before .arrived-byte .ensures, c .before .before .before .before .before .before .before .before .before .passes .ensures, c .before .before .before .before .before .before .before .before .before .before .before .heard-by .ensures, moved-pick)
 
 pub arrival-spec : {M : Type 1} → statement M
 arrival-spec =

@@ -1,6 +1,6 @@
 use borrow.Author.Needs.{needs}
 use Rattle.queue.specs.Queue.{movedBy}
-use Rattle.queue.specs.Laws.{moved-if}
+use Rattle.queue.specs.Laws.{moved-pick}
 use Rattle.acts.specs.Touches.{settingBy, receiveChange, transmitChange, resetsBy}
 use Rattle.acts.specs.Acts.{actWith, readAct}
 use Rattle.acts.proofs.kinds.read.Statement.{statement}
@@ -50,7 +50,7 @@ cast-t17 c = search needs
 
 returns : tie.Need-returns
 unfolding readAct actWith settingBy receiveChange transmitChange resetsBy movedBy
-returns c = simp (c .gives .ensures, c .before .stays .ensures, c .before .before .takes .ensures, c .before .before .before .is .ensures, c .before .before .before .before .with-flags .ensures, c .before .before .before .before .before .cleared .ensures, c .before .before .before .before .before .before .none .ensures, c .before .before .before .before .before .before .before .with-modem .ensures, c .before .before .before .before .before .before .before .before .read2 .ensures, c .before .before .before .before .before .before .before .before .before .with-line .ensures, c .before .before .before .before .before .before .before .before .before .before .read .ensures, c .before .before .before .before .before .before .before .before .before .before .before .shown .ensures, c .before .before .before .before .before .before .before .before .before .before .before .before .register .ensures, moved-if)
+returns c = simp (c .gives .ensures, c .before .stays .ensures, c .before .before .takes .ensures, c .before .before .before .is .ensures, c .before .before .before .before .with-flags .ensures, c .before .before .before .before .before .cleared .ensures, c .before .before .before .before .before .before .none .ensures, c .before .before .before .before .before .before .before .with-modem .ensures, c .before .before .before .before .before .before .before .before .read2 .ensures, c .before .before .before .before .before .before .before .before .before .with-line .ensures, c .before .before .before .before .before .before .before .before .before .before .read .ensures, c .before .before .before .before .before .before .before .before .before .before .before .shown .ensures, c .before .before .before .before .before .before .before .before .before .before .before .before .register .ensures, moved-pick)
 
 pub read-spec : {M : Type 1} → statement M
 read-spec =

@@ -1,6 +1,6 @@
 use borrow.Author.Needs.{needs}
 use Rattle.queue.specs.Queue.{movedBy}
-use Rattle.queue.specs.Laws.{moved-if}
+use Rattle.queue.specs.Laws.{moved-pick}
 use Rattle.acts.specs.Touches.{settingBy, receiveChange, transmitChange, resetsBy}
 use Rattle.acts.specs.Acts.{actWith, slotAct}
 use Rattle.acts.proofs.kinds.slot.Statement.{statement}
@@ -35,7 +35,7 @@ leaving-requires c κs = search needs
 
 returns : tie.Need-returns
 unfolding slotAct actWith settingBy receiveChange transmitChange resetsBy movedBy
-returns c = simp (c .leaving .ensures, c .before .takes .ensures, c .before .before .stays .ensures, c .before .before .before .with-shift .ensures, c .before .before .before .before .none .ensures, c .before .before .before .before .before .loaded .ensures, c .before .before .before .before .before .before .before .loads .ensures, c .before .before .before .before .before .before .before .before .cts .ensures, c .before .before .before .before .before .before .before .before .before .oldest .ensures, moved-if)
+returns c = simp (c .leaving .ensures, c .before .takes .ensures, c .before .before .stays .ensures, c .before .before .before .with-shift .ensures, c .before .before .before .before .none .ensures, c .before .before .before .before .before .loaded .ensures, c .before .before .before .before .before .before .before .loads .ensures, c .before .before .before .before .before .before .before .before .cts .ensures, c .before .before .before .before .before .before .before .before .before .oldest .ensures, moved-pick)
 
 pub slot-spec : {M : Type 1} → statement M
 slot-spec =

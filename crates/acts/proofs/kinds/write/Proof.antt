@@ -1,6 +1,6 @@
 use borrow.Author.Needs.{needs}
 use Rattle.queue.specs.Queue.{movedBy}
-use Rattle.queue.specs.Laws.{moved-if}
+use Rattle.queue.specs.Laws.{moved-pick}
 use Rattle.acts.specs.Touches.{settingBy, receiveChange, transmitChange, resetsBy}
 use Rattle.acts.specs.Acts.{actWith, writeAct}
 use Rattle.acts.proofs.kinds.write.Statement.{statement}
@@ -32,7 +32,7 @@ resets-device-requires c κs = search needs
 
 returns : tie.Need-returns
 unfolding writeAct actWith settingBy receiveChange transmitChange resetsBy movedBy
-returns c = simp (c .resets-device .ensures, c .before .sends .ensures, c .before .before .clears2 .ensures, c .before .before .before .with-line .ensures, c .before .before .before .before .cleared .ensures, c .before .before .before .before .before .written .ensures, c .before .before .before .before .before .before .clears .ensures, c .before .before .before .before .before .before .before .register .ensures, moved-if)
+returns c = simp (c .resets-device .ensures, c .before .sends .ensures, c .before .before .clears2 .ensures, c .before .before .before .with-line .ensures, c .before .before .before .before .cleared .ensures, c .before .before .before .before .before .written .ensures, c .before .before .before .before .before .before .clears .ensures, c .before .before .before .before .before .before .before .register .ensures, moved-pick)
 
 pub write-spec : {M : Type 1} → statement M
 write-spec =
