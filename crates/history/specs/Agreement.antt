@@ -51,22 +51,26 @@ met-holds-by : (ch : Channel) (s : Settings) (f : Effect) (l : Tally) → ch .se
 met-holds-by ch s f l e ok h = rw (← e) (met-holds ch f l ok h)
 
 -- ---- one event
+pub same-answered : (w : Side) (d : Device) (l : Ledger) (m : Made) → Same w d l → Same w (answeredOf d m .device) (judgedBy w l m)
+unfolding judgedBy ledgerAfter
+same-answered w d l m h =
+    let at : Seen w d (answeredOf d m .device) (effectOn w l m) = seen w d l h m in
+    record {
+      own =
+          ap (λ (ch : Channel). ch .settings) (at .own) ∙ met-settings (channelAt d w) (effectOn w l m)
+          ∙ ap (λ (s : Settings). settingsMet s (effectOn w l m)) (h .own);
+      other =
+          ap (λ (ch : Channel). ch .settings) (at .other) ∙ met-settings (channelAt d (otherSide w)) (elsewhere (effectOn w l m))
+          ∙ ap (λ (s : Settings). settingsMet s (elsewhere (effectOn w l m))) (h .other);
+    }
+
 pub agrees-answered : (w : Side) (d : Device) (l : Ledger) (m : Made) → device.WellFormed d → Agrees w d l → Agrees w (answeredOf d m .device) (judgedBy w l m)
 unfolding judgedBy ledgerAfter
 agrees-answered w d l m ok h =
-    let at : Seen w d (answeredOf d m .device) (effectOn w l m) = seen w d l (h .same) m in
     record {
-      same =
-          record {
-            own =
-                ap (λ (ch : Channel). ch .settings) (at .own) ∙ met-settings (channelAt d w) (effectOn w l m)
-                ∙ ap (λ (s : Settings). settingsMet s (effectOn w l m)) (h .same .own);
-            other =
-                ap (λ (ch : Channel). ch .settings) (at .other) ∙ met-settings (channelAt d (otherSide w)) (elsewhere (effectOn w l m))
-                ∙ ap (λ (s : Settings). settingsMet s (elsewhere (effectOn w l m))) (h .same .other);
-          };
+      same = same-answered w d l m (h .same);
       holds =
-          rw (at .own)
+          rw (seen w d l (h .same) m .own)
           (met-holds-by (channelAt d w) (l .own) (effectOn w l m) (l .tally) (h .same .own) (well-formed-at d w ok) (h .holds));
     }
 

@@ -1,7 +1,7 @@
--- Definitions: demand 3, as it is claimed of the device for either channel after every history. Its proofs stand in the files beside.
-use Prim.Native.Nat.{ℕ, _-_, _<_}
+-- Definitions: demand 3, as it is claimed of a device for either channel after every history. Its proofs stand in the files beside.
+use Prim.Native.Nat.{ℕ, _-_, _<_, _≤_}
 use mathlib.Core.Path.{_≡_}
-use mathlib.Core.Bool.{Bool, true, false, not}
+use mathlib.Core.Bool.{Bool, false}
 use mathlib.Core.List.{List, [], _∷_, _++_, map}
 use lib.ListN.{length, getD, take}
 use Rattle.bits.specs.Choice.{pick}
@@ -13,23 +13,26 @@ use Rattle.event.specs.declared.events.Event.{Event}
 use Rattle.event.specs.declared.events.Event.the-variants as event
 use Rattle.event.specs.declared.events.Made.{Made}
 use Rattle.event.specs.declared.events.Made.the-variants as made
+use Rattle.event.specs.declared.events.Touch.{Touch}
 use Rattle.event.specs.declared.events.Touch.the-variants as touch
 use Rattle.registers.specs.declared.register.Register.{Register}
 use Rattle.registers.specs.declared.register.Register.the-variants as register
+use Rattle.registers.specs.declared.settings.Settings.{Settings}
 use Rattle.registers.specs.Windows.{registerAt}
 use Rattle.registers.specs.Queues.{roomOf}
 use Rattle.receiver.specs.Arrivals.{heardOf}
 use Rattle.receiver.specs.Line.{fateNumber}
+use Rattle.acts.specs.Touches.{resetsBy}
 use Rattle.device.specs.declared.side.Side.{Side}
 use Rattle.device.specs.declared.side.Side.the-variants as side
 use Rattle.device.specs.declared.device.Device.{Device}
 use Rattle.device.specs.declared.device.Answer.{Answer}
 use Rattle.device.specs.Reset.{newDevice}
-use Rattle.device.specs.Device.{channelAt, sideNumbered, stepOf, answeredOf}
+use Rattle.device.specs.Device.{channelAt, sideNumbered, stepOf, answeredOf, answerNumber}
 use Rattle.device.specs.Laws.{MadeIn}
-use Rattle.history.specs.Judge.{Tally, queued, unread, keeps, finds, Ledger, Reset, isSide, effectOn, changeBy, judgedBy, freshLedger, judgement}
+use Rattle.history.specs.Judge.{Tally, queued, unread, keeps, finds, Ledger, isSide, effectOn, changeBy, judgedBy, freshLedger, judgement}
 
--- ---- a device after a history: each event in turn, from a new one, a refused one among them
+-- ---- a device after a history: each event in turn, a refused one among them
 abbrev pub ranFrom : Device → List Made → Device
 ranFrom d [] = d
 ranFrom d (m ∷ history) = ranFrom (answeredOf d m .device) history
@@ -37,77 +40,121 @@ ranFrom d (m ∷ history) = ranFrom (answeredOf d m .device) history
 abbrev pub ran : List Made → Device
 ran history = ranFrom newDevice history
 
+-- its answers on the way
+abbrev pub answersFrom : Device → List Made → List Answer
+answersFrom d [] = []
+answersFrom d (m ∷ history) = answeredOf d m .answer ∷ answersFrom (answeredOf d m .device) history
+
 -- each of a history is an event in range or a refusal, as all are that are made from numbers, judged or read from a file
 abbrev pub AllIn : List Made → Type 0
 AllIn [] = Unit {0}
 AllIn (m ∷ history) = MadeIn m × AllIn history
 
--- what the device replies to one more event
-abbrev pub replyTo : Device → Made → ℕ
-replyTo d (made.Event e) = stepOf d e .reply
-replyTo d (made.Refused r) = 0
+-- ---- what demand 3 speaks of: the events, however they came, the number that each was answered with, and the record that they
+-- left
+pub record Log : Type 0 where
+  pub history : List Made
+  pub answered : List ℕ
+  pub device : Device
+
+-- a history by value, on a new device
+abbrev pub logOf : List Made → Log
+logOf history = record { history = history; answered = map answerNumber (answersFrom newDevice history); device = ran history }
+
+-- a log of a new device
+pub record OfNewDevice (log : Log) : Type 0 where
+  pub range : AllIn (log .history)
+  pub same : log ≡ logOf (log .history)
 
 abbrev pub number : Side → ℕ
 number side.A = 0
 number side.B = 1
 
--- what a read of an address of the channel w, an arrival there, replies after a history
-abbrev pub readReply : Side → List Made → ℕ → ℕ
-readReply w history address = stepOf (ran history) (event.At (number w) (touch.Read address)) .reply
+-- what one more event at the channel w is answered with: a read of an address, an arrival
+abbrev pub replyAt : Side → Log → Touch → ℕ
+replyAt w log t = stepOf (log .device) (event.At (number w) t) .reply
 
-abbrev pub arrivalReply : Side → List Made → ℕ → ℕ → ℕ
-arrivalReply w history byte mark = stepOf (ran history) (event.At (number w) (touch.Arrival byte mark)) .reply
+abbrev pub readReply : Side → Log → ℕ → ℕ
+readReply w log address = replyAt w log (touch.Read address)
 
--- what was kept and read since the clear, and the register that an address names, by the judge
-abbrev pub tally : Side → List Made → Tally
-tally w history = judgement w history .tally
+abbrev pub arrivalReply : Side → Log → ℕ → ℕ → ℕ
+arrivalReply w log byte mark = replyAt w log (touch.Arrival byte mark)
 
-abbrev pub Names : Side → List Made → ℕ → Register → Type 0
-Names w history address r = registerAt (judgement w history .own) address ≡ r
+-- by the judge: the channel's stored registers, what was kept and read since the clear, and the register that an address names
+abbrev pub registers : Side → Log → Settings
+registers w log = judgement w (log .history) .own
 
--- ---- the replies to the reads of the receive register that found a character since the queue was last cleared, in order
+abbrev pub tally : Side → Log → Tally
+tally w log = judgement w (log .history) .tally
+
+abbrev pub Names : Side → Log → ℕ → Register → Type 0
+Names w log address r = registerAt (registers w log) address ≡ r
+
+-- ---- the answers to the reads of the receive register that found a character since the queue was last cleared, in order
 unfoldable pub foundAfter : Change → Tally → ℕ → List ℕ → List ℕ
 foundAfter (Add c) l reply found = found
 foundAfter Take l reply found = pick (finds l) (found ++ (reply ∷ [])) found
 foundAfter Clear l reply found = []
 foundAfter Stay l reply found = found
 
-abbrev pub foundFrom : Side → Device → Ledger → List ℕ → List Made → List ℕ
-foundFrom w d l found [] = found
-foundFrom w d l found (m ∷ history) =
-    foundFrom w (answeredOf d m .device) (judgedBy w l m) (foundAfter (changeBy (l .own) (effectOn w l m)) (l .tally) (replyTo d m) found) history
+abbrev pub foundFrom : Side → Ledger → List ℕ → List Made → List ℕ → List ℕ
+foundFrom w l found [] numbers = found
+foundFrom w l found (m ∷ history) [] = found
+foundFrom w l found (m ∷ history) (n ∷ numbers) =
+    foundFrom w (judgedBy w l m) (foundAfter (changeBy (l .own) (effectOn w l m)) (l .tally) n found) history numbers
 
-abbrev pub found : Side → List Made → List ℕ
-found w history = foundFrom w newDevice freshLedger [] history
+abbrev pub found : Side → Log → List ℕ
+found w log = foundFrom w freshLedger [] (log .history) (log .answered)
 
-pub record Demand3 (w : Side) (history : List Made) : Type 0 where
+pub record Demand3 (w : Side) (log : Log) : Type 0 where
+  -- no more was read than was kept
+  pub within : tally w log .read ≤ length (tally w log .kept)
   -- "the nth read that finds a character gives the nth character kept": so far,
-  pub reads-in-order : found w history ≡ map (λ c. c .byte) (take (tally w history .read) (tally w history .kept))
+  pub reads-in-order : found w log ≡ map (λ c. c .byte) (take (tally w log .read) (tally w log .kept))
   -- and the next one
-  pub next-read : (address : ℕ) → Names w history address register.RhrThr → tally w history .read < length (tally w history .kept)
-      → readReply w history address ≡ getD (tally w history .kept) (tally w history .read) none .byte
+  pub next-read : (address : ℕ) → Names w log address register.RhrThr → tally w log .read < length (tally w log .kept)
+      → readReply w log address ≡ getD (tally w log .kept) (tally w log .read) none .byte
   -- a read that finds none gives 0
-  pub no-read : (address : ℕ) → Names w history address register.RhrThr → queued (tally w history) ≡ 0 → readReply w history address ≡ 0
+  pub no-read : (address : ℕ) → Names w log address register.RhrThr → queued (tally w log) ≡ 0 → readReply w log address ≡ 0
   -- "the level is kept less read", in the record and in RXLVL
-  pub level : channelAt (ran history) w .rx .count ≡ length (tally w history .kept) - tally w history .read
-  pub rxlvl : (address : ℕ) → Names w history address register.Rxlvl
-      → readReply w history address ≡ length (tally w history .kept) - tally w history .read
+  pub level : channelAt (log .device) w .rx .count ≡ length (tally w log .kept) - tally w log .read
+  pub rxlvl : (address : ℕ) → Names w log address register.Rxlvl
+      → readReply w log address ≡ length (tally w log .kept) - tally w log .read
   -- "the error bits are those of the next unread character, zero if none"
-  pub error-bits : (address : ℕ) → Names w history address register.Lsr
-      → partAt (readReply w history address) 2 3 ≡ getD (unread (tally w history)) 0 none .mark
+  pub error-bits : (address : ℕ) → Names w log address register.Lsr
+      → partAt (readReply w log address) 2 3 ≡ getD (unread (tally w log)) 0 none .mark
   -- LSR 0 is set exactly if there is an unread character
-  pub ready : (address : ℕ) → Names w history address register.Lsr
-      → bitAt (readReply w history address) 0 ≡ finds (tally w history)
+  pub ready : (address : ℕ) → Names w log address register.Lsr → bitAt (readReply w log address) 0 ≡ finds (tally w log)
   -- "LSR 7 is set exactly if some unread character carries an error"
-  pub any-error : (address : ℕ) → Names w history address register.Lsr
-      → bitAt (readReply w history address) 7 ≡ someMark (unread (tally w history))
+  pub any-error : (address : ℕ) → Names w log address register.Lsr
+      → bitAt (readReply w log address) 7 ≡ someMark (unread (tally w log))
   -- an arrival's reply is its fate by the judge
   pub fate : (byte mark : ℕ)
-      → arrivalReply w history byte mark
-      ≡ fateNumber (heardOf (judgement w history .own) byte mark .gate) (keeps (tally w history) (roomOf (judgement w history .own)))
+      → arrivalReply w log byte mark
+      ≡ fateNumber (heardOf (registers w log) byte mark .gate) (keeps (tally w log) (roomOf (registers w log)))
 
 -- ---- "Nothing on the other channel alters this, save a device reset."
--- an event of the channel w, and one of the other; a reset and an IRQ look are neither's
+-- what is left of an event for the channel w: nothing of one of the other channel, unless it resets the device by the stored
+-- registers there, and then the kind 6 that it amounts to; nothing of a refused one
+abbrev pub eventLeft : Side → Settings → Event → List Made
+eventLeft w other (event.At channel t) =
+    pick (isSide w (sideNumbered channel)) (made.Event (event.At channel t) ∷ [])
+    (pick (resetsBy other t) (made.Event event.Reset ∷ []) [])
+eventLeft w other event.Reset = made.Event event.Reset ∷ []
+eventLeft w other event.IrqLook = made.Event event.IrqLook ∷ []
+
+abbrev pub leftOf : Side → Settings → Made → List Made
+leftOf w other (made.Event e) = eventLeft w other e
+leftOf w other (made.Refused r) = []
+
+abbrev pub remainderFrom : Side → Ledger → List Made → List Made
+remainderFrom w l [] = []
+remainderFrom w l (m ∷ history) = leftOf w (l .other) m ++ remainderFrom w (judgedBy w l m) history
+
+abbrev pub remainder : Side → List Made → List Made
+remainder w history = remainderFrom w freshLedger history
+
+-- an event of the channel w; a reset, an IRQ look and a refused event are neither's
 abbrev pub eventOfOwn : Side → Event → Bool
 eventOfOwn w (event.At channel t) = isSide w (sideNumbered channel)
 eventOfOwn w event.Reset = false
@@ -117,40 +164,18 @@ abbrev pub ofOwn : Side → Made → Bool
 ofOwn w (made.Event e) = eventOfOwn w e
 ofOwn w (made.Refused r) = false
 
-abbrev pub eventOfOther : Side → Event → Bool
-eventOfOther w (event.At channel t) = not (isSide w (sideNumbered channel))
-eventOfOther w event.Reset = false
-eventOfOther w event.IrqLook = false
-
-abbrev pub ofOther : Side → Made → Bool
-ofOther w (made.Event e) = eventOfOther w e
-ofOther w (made.Refused r) = false
-
--- a history without the events of the other channel
-abbrev pub withoutOther : Side → List Made → List Made
-withoutOther w [] = []
-withoutOther w (m ∷ history) = pick (ofOther w m) (withoutOther w history) (m ∷ withoutOther w history)
-
--- no event of the other channel is a device reset, by the stored registers as they stand when it comes
-abbrev pub NoResetThereFrom : Side → Ledger → List Made → Type 0
-NoResetThereFrom w l [] = Unit {0}
-NoResetThereFrom w l (m ∷ history) = (ofOther w m ≡ true → effectOn w l m ≡ Reset → ⊥) × NoResetThereFrom w (judgedBy w l m) history
-
-abbrev pub NoResetThere : Side → List Made → Type 0
-NoResetThere w history = NoResetThereFrom w freshLedger history
-
 -- the answers to the events of the channel w, in order
-abbrev pub answersFrom : Side → Device → List Made → List Answer
-answersFrom w d [] = []
-answersFrom w d (m ∷ history) =
-    pick (ofOwn w m) (answeredOf d m .answer ∷ answersFrom w (answeredOf d m .device) history) (answersFrom w (answeredOf d m .device) history)
+abbrev pub ownOf : Side → List Made → List ℕ → List ℕ
+ownOf w [] numbers = []
+ownOf w (m ∷ history) [] = []
+ownOf w (m ∷ history) (n ∷ numbers) = pick (ofOwn w m) (n ∷ ownOf w history numbers) (ownOf w history numbers)
 
-abbrev pub answers : Side → List Made → List Answer
-answers w history = answersFrom w newDevice history
+abbrev pub ownAnswers : Side → Log → List ℕ
+ownAnswers w log = ownOf w (log .history) (log .answered)
 
--- two histories that differ only in events of the other channel, none of which is a device reset, have the same
--- judgement of the channel w, the same replies on it, and leave its record the same
-pub record Alone (w : Side) (history another : List Made) : Type 0 where
-  pub same-tally : tally w history ≡ tally w another
-  pub same-answers : answers w history ≡ answers w another
-  pub same-record : channelAt (ran history) w ≡ channelAt (ran another) w
+-- two logs of which the channel w sees the same: the same judgement of it, the same answers on it, the same record
+pub record Alone (w : Side) (log another : Log) : Type 0 where
+  pub same-registers : registers w log ≡ registers w another
+  pub same-tally : tally w log ≡ tally w another
+  pub same-answers : ownAnswers w log ≡ ownAnswers w another
+  pub same-record : channelAt (log .device) w ≡ channelAt (another .device) w

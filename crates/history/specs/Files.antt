@@ -17,7 +17,7 @@ use Rattle.device.specs.declared.device.Answer.the-variants as answer
 use Rattle.device.specs.Reset.{newDevice}
 use Rattle.device.specs.Device.{answeredOf}
 use Rattle.run.specs.Run.{Indexed, runBy, runFrom, runOf}
-use Rattle.history.specs.Demand3.{AllIn, Demand3}
+use Rattle.history.specs.Demand3.{answersFrom, AllIn, logOf, Demand3}
 use Rattle.history.specs.Proved.{demand-3}
 
 -- the history that is read of an input from a place on, in at most so many events
@@ -48,28 +48,23 @@ historyOf s = historyFrom (length s) s 0
 abbrev pub endOf : List ℕ → List Answer
 endOf s = endFrom (length s) s 0
 
--- the device's answers along a history
-abbrev pub answersAlong : Device → List Made → List Answer
-answersAlong d [] = []
-answersAlong d (m ∷ history) = answeredOf d m .answer ∷ answersAlong (answeredOf d m .device) history
-
 -- ---- the run's answers are those along the history, and the refusal that ends it
 run-from : (k : ℕ) (s : List ℕ) (at index : ℕ) (d : Device)
-    → map (λ (a : Indexed). a .answer) (runFrom k s at index d) ≡ answersAlong d (historyFrom k s at) ++ endFrom k s at
+    → map (λ (a : Indexed). a .answer) (runFrom k s at index d) ≡ answersFrom d (historyFrom k s at) ++ endFrom k s at
 unfolding runFrom historyFrom endFrom answeredOf
 run-from zero s at index d = refl
 run-from (suc k) s at index d = go (run-from k s) (readAt s at)
   where
-    go : ((at index : ℕ) (d : Device) → map (λ (a : Indexed). a .answer) (runFrom k s at index d) ≡ answersAlong d (historyFrom k s at) ++ endFrom k s at)
+    go : ((at index : ℕ) (d : Device) → map (λ (a : Indexed). a .answer) (runFrom k s at index d) ≡ answersFrom d (historyFrom k s at) ++ endFrom k s at)
         → (r : Reading)
         → map (λ (a : Indexed). a .answer) (runBy (runFrom k s) index d r)
-        ≡ answersAlong d (readingThen (historyFrom k s) r) ++ endThen (endFrom k s) r
+        ≡ answersFrom d (readingThen (historyFrom k s) r) ++ endThen (endFrom k s) r
     go rest (reading.Event e next) = ap (λ (l : List Answer). answeredOf d (made.Event e) .answer ∷ l) (rest next (index + 1) (answeredOf d (made.Event e) .device))
     go rest (reading.Refused r next) = ap (λ (l : List Answer). answeredOf d (made.Refused r) .answer ∷ l) (rest next (index + 1) (answeredOf d (made.Refused r) .device))
     go rest (reading.Ended r) = refl
     go rest reading.End = refl
 
-pub run-is-history : (s : List ℕ) → map (λ (a : Indexed). a .answer) (runOf s) ≡ answersAlong newDevice (historyOf s) ++ endOf s
+pub run-is-history : (s : List ℕ) → map (λ (a : Indexed). a .answer) (runOf s) ≡ answersFrom newDevice (historyOf s) ++ endOf s
 unfolding runOf
 run-is-history s = run-from (length s) s 0 0 newDevice
 
@@ -85,5 +80,5 @@ history-in (suc k) s at = go (history-in k s) (readAt s at) refl
     go rest (reading.Ended r) read = tt
     go rest reading.End read = tt
 
-pub demand-3-of-files : (w : Side) (s : List ℕ) → Demand3 w (historyOf s)
-demand-3-of-files w s = demand-3 w (historyOf s) (history-in (length s) s 0)
+pub demand-3-of-files : (w : Side) (s : List ℕ) → Demand3 w (logOf (historyOf s))
+demand-3-of-files w s = demand-3 w (logOf (historyOf s)) (record { range = history-in (length s) s 0; same = refl })

@@ -7,7 +7,8 @@ pub mod Agreement
 pub mod Order
 pub mod Reads
 pub mod Proved
+pub mod Alone
 pub mod Numbers
 pub mod Files
-pub mod Alone
+pub mod Lent
 pub mod Table

@@ -4,7 +4,7 @@ use native.Mathlib.Nat.{add-zero}
 use native.Mathlib.Omega.{arith}
 use mathlib.Core.Path.{_≡_, refl, ap, _∙_}
 use mathlib.Core.Bool.{not}
-use mathlib.Core.List.{List, [], _∷_}
+use mathlib.Core.List.{List, [], _∷_, map}
 use lib.ListN.{length, getD, length-drop, List·getD-eq-default}
 use lib.Seq.{getD-drop}
 use lib.Dec.{eqb, ltb}
@@ -24,120 +24,142 @@ use Rattle.registers.specs.Windows.{registerAt}
 use Rattle.registers.specs.Queues.{roomOf}
 use Rattle.receiver.specs.Arrivals.{heardOf}
 use Rattle.receiver.specs.Line.{fateNumber}
-use Rattle.channel.specs.Channel.{shownAt, readOf}
+use Rattle.channel.specs.declared.channel.Channel.{Channel}
+use Rattle.channel.specs.Channel.{WellFormed, shownAt, readOf}
 use Rattle.device.specs.declared.side.Side.{Side}
 use Rattle.device.specs.declared.device.Device.{Device}
 use Rattle.device.specs.Reset.{newDevice}
 use Rattle.device.specs.Device as device
-use Rattle.device.specs.Device.{channelAt, stepOf, answeredOf}
+use Rattle.device.specs.Device.{channelAt, stepOf, answeredOf, answerNumber}
 use Rattle.device.specs.Laws.{well-formed-new, well-formed-at, well-formed-answered}
-use Rattle.history.specs.Judge.{queued, unread, Ledger, freshLedger, Effect, Own, Other, Reset, Nothing, effectOn, changeBy, ledgerAfter, judgedBy, judgedFrom, judgement}
-use Rattle.history.specs.Demand3.{ran, AllIn, replyTo, number, tally, foundAfter, foundFrom, Demand3}
+use Rattle.history.specs.Judge.{queued, unread, keeps, finds, Ledger, freshLedger, Effect, Own, Other, Reset, Nothing, effectOn, changeBy, ledgerAfter, judgedBy, judgedFrom, judgement}
+use Rattle.history.specs.Demand3.{ran, answersFrom, AllIn, Log, logOf, OfNewDevice, number, foundAfter, foundFrom, Demand3}
 use Rattle.history.specs.Tally.{holds-count}
-use Rattle.history.specs.Seen.{own-reply}
+use Rattle.history.specs.Seen.{numberFor, own-reply}
 use Rattle.history.specs.Agreement.{Agrees, agrees-answered, agrees-new, agreement, well-formed-ran}
 use Rattle.history.specs.Reads.{read-reply, arrival-reply, fate-kept, taken-reply, rhr-read, rxlvl-read, lsr-marks-read, lsr-ready-read, lsr-error-read}
 use Rattle.history.specs.Order.{InOrder, in-order-after}
 
 module _ (w : Side) (d : Device) (l : Ledger) (ok : device.WellFormed d) (h : Agrees w d l) where
+  abbrev ch : Channel
+  ch = channelAt d w
+
+  ch-in : WellFormed ch
+  ch-in = well-formed-at d w ok
+
   -- what the receive queue stands for is what is unread
-  unread-items : items (channelAt d w .rx) ≡ unread (l .tally)
-  unread-items = h .holds .same
+  by-unread : {A : Type 0} (f : List Character → A) → f (items (ch .rx)) ≡ f (unread (l .tally))
+  by-unread f = ap f (h .holds .same)
+
+  unread-count : length (unread (l .tally)) ≡ queued (l .tally)
+  unread-count = length-drop (l .tally .read) (l .tally .kept)
 
   next-unread : getD (unread (l .tally)) 0 none ≡ getD (l .tally .kept) (l .tally .read) none
   next-unread = rw add-zero at (getD-drop (l .tally .read) (l .tally .kept) 0 none)
 
-  oldest-next : oldestOf (channelAt d w .rx) .byte ≡ getD (l .tally .kept) (l .tally .read) none .byte
-  oldest-next =
-      ap (λ (c : Character). c .byte)
-      (oldest-head (channelAt d w .rx) (well-formed-at d w ok .rx-in)
-      ∙ ap (λ (cs : List Character). getD cs 0 none) unread-items
-      ∙ next-unread)
+  none-unread : queued (l .tally) ≡ 0 → getD (unread (l .tally)) 0 none ≡ none
+  none-unread empty = List·getD-eq-default (unread (l .tally)) none (omega (arith, unread-count))
 
-  -- an event that takes a character is a read of it
-  taken-by : (m : Made) (f : Effect) → effectOn w l m ≡ f → changeBy (l .own) f ≡ Take → replyTo d m ≡ oldestOf (channelAt d w .rx) .byte
-  taken-by m (Own t) e takes = own-reply w d l (h .same) m t e ∙ taken-reply (channelAt d w) t (rw (h .same .own) takes)
+  -- ---- an event that takes a character is a read of it
+  oldest-next : oldestOf (ch .rx) .byte ≡ getD (l .tally .kept) (l .tally .read) none .byte
+  oldest-next =
+      ap (λ (c : Character). c .byte) (oldest-head (ch .rx) (ch-in .rx-in) ∙ by-unread (λ cs. getD cs 0 none) ∙ next-unread)
+
+  taken-by : (m : Made) (f : Effect) → effectOn w l m ≡ f → changeBy (l .own) f ≡ Take → numberFor d m ≡ oldestOf (ch .rx) .byte
+  taken-by m (Own t) e takes = own-reply w d l (h .same) m t e ∙ taken-reply ch t (rw (h .same .own) takes)
   taken-by m (Other t) e takes = cc
   taken-by m Reset e takes = cc
   taken-by m Nothing e takes = cc
 
   in-order-step : (m : Made) (found : List ℕ) → InOrder (l .tally) found
-      → InOrder (judgedBy w l m .tally) (foundAfter (changeBy (l .own) (effectOn w l m)) (l .tally) (replyTo d m) found)
+      → InOrder (judgedBy w l m .tally) (foundAfter (changeBy (l .own) (effectOn w l m)) (l .tally) (numberFor d m) found)
   unfolding judgedBy ledgerAfter
   in-order-step m found o =
-      in-order-after (changeBy (l .own) (effectOn w l m)) (roomOf (l .own)) (l .tally) (replyTo d m) found (h .holds .within)
+      in-order-after (changeBy (l .own) (effectOn w l m)) (roomOf (l .own)) (l .tally) (numberFor d m) found (h .holds .within)
       (λ takes. taken-by m (effectOn w l m) refl takes ∙ oldest-next) o
 
-in-order-run : (w : Side) (history : List Made) (d : Device) (l : Ledger) (found : List ℕ) → AllIn history → device.WellFormed d → Agrees w d l → InOrder (l .tally) found
-    → InOrder (judgedFrom w l history .tally) (foundFrom w d l found history)
-in-order-run w [] d l found range ok h o = o
-in-order-run w (m ∷ history) d l found range ok h o =
-    in-order-run w history (answeredOf d m .device) (judgedBy w l m) (foundAfter (changeBy (l .own) (effectOn w l m)) (l .tally) (replyTo d m) found) (range .1)
-    (well-formed-answered d m (range .0) ok) (agrees-answered w d l m ok h) (in-order-step w d l ok h m found o)
+  -- ---- what reads and arrivals reply, by the judge
+  reply-of : (address : ℕ) (r : Register) → registerAt (l .own) address ≡ r
+      → stepOf d (event.At (number w) (touch.Read address)) .reply ≡ readOf ch r (shownAt ch r)
+  reply-of address r named = read-reply d w address r (ap (λ (s : Settings). registerAt s address) (h .same .own) ∙ named)
 
--- ---- what reads and arrivals reply, by the judge
-module _ (w : Side) (history : List Made) (range : AllIn history) where
-  agrees : Agrees w (ran history) (judgement w history)
-  agrees = agreement w history range
-
-  ok : device.WellFormed (ran history)
-  ok = well-formed-ran history range
-
-  -- a read of an address that names a register
-  reply-of : (address : ℕ) (r : Register) → registerAt (judgement w history .own) address ≡ r
-      → stepOf (ran history) (event.At (number w) (touch.Read address)) .reply ≡ readOf (channelAt (ran history) w) r (shownAt (channelAt (ran history) w) r)
-  reply-of address r named = read-reply (ran history) w address r (ap (λ (s : Settings). registerAt s address) (agrees .same .own) ∙ named)
-
-  by-unread : {A : Type 0} (f : List Character → A) → f (items (channelAt (ran history) w .rx)) ≡ f (unread (tally w history))
-  by-unread f = ap f (unread-items w (ran history) (judgement w history) ok agrees)
-
-  next-byte : (address : ℕ) → registerAt (judgement w history .own) address ≡ register.RhrThr
-      → stepOf (ran history) (event.At (number w) (touch.Read address)) .reply ≡ getD (unread (tally w history)) 0 none .byte
+  next-byte : (address : ℕ) → registerAt (l .own) address ≡ register.RhrThr
+      → stepOf d (event.At (number w) (touch.Read address)) .reply ≡ getD (unread (l .tally)) 0 none .byte
   next-byte address named =
-      reply-of address register.RhrThr named
-      ∙ rhr-read (channelAt (ran history) w) (well-formed-at (ran history) w ok) (shownAt (channelAt (ran history) w) register.RhrThr)
-      ∙ by-unread (λ cs. getD cs 0 none .byte)
+      reply-of address register.RhrThr named ∙ rhr-read ch ch-in (shownAt ch register.RhrThr) ∙ by-unread (λ cs. getD cs 0 none .byte)
 
-  lsr : (address : ℕ) → registerAt (judgement w history .own) address ≡ register.Lsr
-      → stepOf (ran history) (event.At (number w) (touch.Read address)) .reply ≡ readOf (channelAt (ran history) w) register.Lsr (shownAt (channelAt (ran history) w) register.Lsr)
-  lsr address named = reply-of address register.Lsr named
+  level-read : (address : ℕ) → registerAt (l .own) address ≡ register.Rxlvl
+      → stepOf d (event.At (number w) (touch.Read address)) .reply ≡ queued (l .tally)
+  level-read address named =
+      reply-of address register.Rxlvl named ∙ rxlvl-read ch ch-in (shownAt ch register.Rxlvl) ∙ by-unread length ∙ unread-count
 
-  none-unread : queued (tally w history) ≡ 0 → getD (unread (tally w history)) 0 none ≡ none
-  none-unread empty = List·getD-eq-default (unread (tally w history)) none (omega (arith, length-drop (tally w history .read) (tally w history .kept)))
+  module _ (address : ℕ) (named : registerAt (l .own) address ≡ register.Lsr) where
+    abbrev lsr : ℕ
+    lsr = stepOf d (event.At (number w) (touch.Read address)) .reply
+
+    is-lsr : lsr ≡ readOf ch register.Lsr (shownAt ch register.Lsr)
+    is-lsr = reply-of address register.Lsr named
+
+    error-bits-read : partAt lsr 2 3 ≡ getD (unread (l .tally)) 0 none .mark
+    error-bits-read =
+        ap (λ (n : ℕ). partAt n 2 3) is-lsr ∙ lsr-marks-read ch ch-in (shownAt ch register.Lsr) ∙ by-unread (λ cs. getD cs 0 none .mark)
+
+    ready-read : bitAt lsr 0 ≡ finds (l .tally)
+    ready-read =
+        ap (λ (n : ℕ). bitAt n 0) is-lsr
+        ∙ lsr-ready-read ch ch-in (shownAt ch register.Lsr)
+        ∙ ap (λ (n : ℕ). not (eqb n 0)) (by-unread length ∙ unread-count)
+
+    any-error-read : bitAt lsr 7 ≡ someMark (unread (l .tally))
+    any-error-read = ap (λ (n : ℕ). bitAt n 7) is-lsr ∙ lsr-error-read ch ch-in (shownAt ch register.Lsr) ∙ by-unread someMark
 
   judged-fate : (byte mark : ℕ)
-      → stepOf (ran history) (event.At (number w) (touch.Arrival byte mark)) .reply
-      ≡ fateNumber (heardOf (judgement w history .own) byte mark .gate) (ltb (queued (tally w history)) (roomOf (judgement w history .own)))
+      → stepOf d (event.At (number w) (touch.Arrival byte mark)) .reply
+      ≡ fateNumber (heardOf (l .own) byte mark .gate) (keeps (l .tally) (roomOf (l .own)))
   judged-fate byte mark =
-      arrival-reply (ran history) w byte mark
-      ∙ fate-kept (channelAt (ran history) w) byte mark
-      ∙ ap (λ (n : ℕ). fateNumber (heardOf (channelAt (ran history) w .settings) byte mark .gate) (ltb n (roomOf (channelAt (ran history) w .settings))))
-      (by-unread length ∙ length-drop (tally w history .read) (tally w history .kept))
-      ∙ ap (λ (s : Settings). fateNumber (heardOf s byte mark .gate) (ltb (queued (tally w history)) (roomOf s))) (agrees .same .own)
+      arrival-reply d w byte mark
+      ∙ fate-kept ch byte mark
+      ∙ ap (λ (n : ℕ). fateNumber (heardOf (ch .settings) byte mark .gate) (ltb n (roomOf (ch .settings)))) (by-unread length ∙ unread-count)
+      ∙ ap (λ (s : Settings). fateNumber (heardOf s byte mark .gate) (ltb (queued (l .tally)) (roomOf s))) (h .same .own)
 
-  pub demand-3 : Demand3 w history
-  demand-3 =
-      record {
-        reads-in-order = in-order-run w history newDevice freshLedger [] range well-formed-new (agrees-new w) refl;
-        next-read = λ address named _. next-byte address named ∙ ap (λ (c : Character). c .byte) (next-unread w (ran history) (judgement w history) ok agrees);
-        no-read = λ address named empty. next-byte address named ∙ ap (λ (c : Character). c .byte) (none-unread empty);
-        level = holds-count (agrees .holds);
-        rxlvl = λ address named.
-            reply-of address register.Rxlvl named
-            ∙ rxlvl-read (channelAt (ran history) w) (well-formed-at (ran history) w ok) (shownAt (channelAt (ran history) w) register.Rxlvl)
-            ∙ by-unread length
-            ∙ length-drop (tally w history .read) (tally w history .kept);
-        error-bits = λ address named.
-            ap (λ (n : ℕ). partAt n 2 3) (lsr address named)
-            ∙ lsr-marks-read (channelAt (ran history) w) (well-formed-at (ran history) w ok) (shownAt (channelAt (ran history) w) register.Lsr)
-            ∙ by-unread (λ cs. getD cs 0 none .mark);
-        ready = λ address named.
-            ap (λ (n : ℕ). bitAt n 0) (lsr address named)
-            ∙ lsr-ready-read (channelAt (ran history) w) (well-formed-at (ran history) w ok) (shownAt (channelAt (ran history) w) register.Lsr)
-            ∙ ap (λ (n : ℕ). not (eqb n 0)) (by-unread length ∙ length-drop (tally w history .read) (tally w history .kept));
-        any-error = λ address named.
-            ap (λ (n : ℕ). bitAt n 7) (lsr address named)
-            ∙ lsr-error-read (channelAt (ran history) w) (well-formed-at (ran history) w ok) (shownAt (channelAt (ran history) w) register.Lsr)
-            ∙ by-unread someMark;
-        fate = judged-fate;
-      }
+-- ---- over every history
+in-order-run : (w : Side) (history : List Made) (d : Device) (l : Ledger) (found : List ℕ) → AllIn history → device.WellFormed d → Agrees w d l → InOrder (l .tally) found
+    → InOrder (judgedFrom w l history .tally) (foundFrom w l found history (map answerNumber (answersFrom d history)))
+in-order-run w [] d l found range ok h o = o
+in-order-run w (m ∷ history) d l found range ok h o =
+    in-order-run w history (answeredOf d m .device) (judgedBy w l m) (foundAfter (changeBy (l .own) (effectOn w l m)) (l .tally) (numberFor d m) found) (range .1)
+    (well-formed-answered d m (range .0) ok) (agrees-answered w d l m ok h) (in-order-step w d l ok h m found o)
+
+by-value : (w : Side) (history : List Made) → AllIn history → Demand3 w (logOf history)
+by-value w history range =
+    record {
+      within = h .holds .within;
+      reads-in-order = in-order-run w history newDevice freshLedger [] range well-formed-new (agrees-new w) refl;
+      next-read = λ address named _. next-byte w d l ok h address named ∙ ap (λ (c : Character). c .byte) (next-unread w d l ok h);
+      no-read = λ address named empty. next-byte w d l ok h address named ∙ ap (λ (c : Character). c .byte) (none-unread w d l ok h empty);
+      level = holds-count (h .holds);
+      rxlvl = level-read w d l ok h;
+      error-bits = error-bits-read w d l ok h;
+      ready = ready-read w d l ok h;
+      any-error = any-error-read w d l ok h;
+      fate = judged-fate w d l ok h;
+    }
+  where
+    d : Device
+    d = ran history
+
+    l : Ledger
+    l = judgement w history
+
+    ok : device.WellFormed d
+    ok = well-formed-ran history range
+
+    h : Agrees w d l
+    h = agreement w history range
+
+-- a log of a new device is one by value
+pub by-log : (P : Log → Type 0) (log : Log) → OfNewDevice log → P (logOf (log .history)) → P log
+by-log P log of h = rw (of .same) h
+
+pub demand-3 : (w : Side) (log : Log) → OfNewDevice log → Demand3 w log
+demand-3 w log of = by-log (Demand3 w) log of (by-value w (log .history) (of .range))

@@ -1,4 +1,5 @@
 -- For proofs alone: what an event makes of each channel of a device whose stored registers the judge has.
+use Prim.Native.Nat.{ℕ}
 use mathlib.Core.Path.{_≡_, refl}
 use mathlib.Core.Bool.{Bool, true, false}
 use Rattle.bits.specs.Choice.{pick}
@@ -15,10 +16,9 @@ use Rattle.device.specs.declared.side.Side.the-variants as side
 use Rattle.device.specs.declared.device.Device.{Device}
 use Rattle.device.specs.declared.device.Stepped.{Stepped}
 use Rattle.device.specs.Reset.{resetOf, resetDevice}
-use Rattle.device.specs.Device.{channelAt, withChannel, sideNumbered, touchedAt, namedStep, stepOf, answeredOf}
+use Rattle.device.specs.Device.{channelAt, withChannel, sideNumbered, touchedAt, namedStep, stepOf, answeredOf, answerNumber}
 use Rattle.device.specs.Laws.{otherSide}
 use Rattle.history.specs.Judge.{Ledger, Effect, Own, Other, Reset, isSide, namedEffect, eventEffect, effectOn, metBy, elsewhere}
-use Rattle.history.specs.Demand3.{replyTo}
 
 -- an event of a channel is of its own or of the other
 side-of : (w at : Side) → at ≡ pick (isSide w at) w (otherSide w)
@@ -29,6 +29,10 @@ side-of side.B side.B = refl
 
 pub own-side : (w at : Side) → isSide w at ≡ true → at ≡ w
 own-side w at own = rw own at (side-of w at)
+
+-- the number that an event is answered with
+abbrev pub numberFor : Device → Made → ℕ
+numberFor d m = answerNumber (answeredOf d m .answer)
 
 -- a channel after an event that it meets
 abbrev pub channelMet : Channel → Effect → Channel
@@ -119,6 +123,7 @@ module _ (w : Side) (d : Device) (l : Ledger) (same : Same w d l) where
   event-reply event.Reset t f = cc
   event-reply event.IrqLook t f = cc
 
-  pub own-reply : (m : Made) (t : Touch) → effectOn w l m ≡ Own t → replyTo d m ≡ stepAt (channelAt d w) t .reply
+  pub own-reply : (m : Made) (t : Touch) → effectOn w l m ≡ Own t → numberFor d m ≡ stepAt (channelAt d w) t .reply
+  unfolding answeredOf answerNumber
   own-reply (made.Event e) t f = event-reply e t f
   own-reply (made.Refused r) t f = cc
