@@ -7,6 +7,7 @@ pub mod Agreement
 pub mod Order
 pub mod Reads
 pub mod Proved
+pub mod Rules
 pub mod Alone
 pub mod Numbers
 pub mod Files
