@@ -11,7 +11,10 @@ use lib.Seq.{getD-drop, drop-cons, drop-drop, drop-append-seam}
 use lib.Dec.{ltb, leb}
 use borrow.Author.Tests.{lt-ltb, le-ltb, lt-leb, ne-eqb, leb-false, eqb-false, ltb-true, ltb-false}
 use Rattle.bits.specs.Choice.{pick, pick-by}
+use Rattle.event.specs.declared.events.Touch.{Touch}
+use Rattle.event.specs.declared.events.Touch.the-variants as touch
 use Rattle.event.specs.declared.events.Event.{Event}
+use Rattle.event.specs.declared.events.Event.the-variants as event
 use Rattle.event.specs.declared.events.Made.{Made}
 use Rattle.event.specs.declared.events.Made.the-variants as made
 use Rattle.event.specs.Refusals.{refusalNumber}
@@ -36,6 +39,29 @@ two-groups n low high e marked fits some =
     let first : n % 128 + 128 ≡ low = omega arith in
     let second : n / 128 ≡ high = omega arith in
     rw (le-ltb n 128 (omega arith), first, second)
+
+groups-at-most-two : (n : ℕ) → length (groups n) ≤ 2
+unfolding groups
+groups-at-most-two n = pick-by (λ (l : List ℕ). length l ≤ 2) (ltb n 128) (λ _. omega arith) (λ _. omega arith)
+
+-- ---- an event's bytes are five at most: of all operands only a byte can take two groups
+touch-at-most-five : (channel : ℕ) (t : Touch) → InRange (event.At channel t) → length (bytesOf (event.At channel t)) ≤ 5
+unfolding bytesOf groups
+touch-at-most-five channel (touch.Write address byte) range =
+    rw (one-group channel (omega arith), one-group address (omega arith)) (omega (arith, groups-at-most-two byte))
+touch-at-most-five channel (touch.Read address) range = rw (one-group channel (omega arith), one-group address (omega arith)) (omega arith)
+touch-at-most-five channel (touch.Arrival byte mark) range =
+    rw (one-group channel (omega arith), one-group mark (omega arith)) (omega (arith, length-append (groups byte) (mark ∷ []), groups-at-most-two byte))
+touch-at-most-five channel touch.Slot range = rw (one-group channel (omega arith)) (omega arith)
+touch-at-most-five channel (touch.Pins value) range = rw (one-group channel (omega arith), one-group value (omega arith)) (omega arith)
+touch-at-most-five channel touch.Quiet range = rw (one-group channel (omega arith)) (omega arith)
+touch-at-most-five channel touch.RtsLook range = rw (one-group channel (omega arith)) (omega arith)
+
+pub bytes-at-most-five : (e : Event) → InRange e → length (bytesOf e) ≤ 5
+unfolding bytesOf groups
+bytes-at-most-five (event.At channel t) range = touch-at-most-five channel t range
+bytes-at-most-five event.Reset range = omega arith
+bytes-at-most-five event.IrqLook range = omega arith
 
 -- ---- a number or an operand that was read: it ends inside the input, and in a list of bytes it stands there as it is written
 abbrev pub Bytes : List ℕ → Type 0
