@@ -6,4 +6,5 @@ mod writing;
 pub use reading::Reading;
 pub use reading::read_at;
 pub use writing::Written;
+pub use writing::put_event;
 pub use writing::write;

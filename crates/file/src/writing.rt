@@ -4,11 +4,18 @@ use event::Made;
 use event::Touch;
 use event::event_of;
 ghost use mathlib.Core.Path.{_≡_};
+ghost use mathlib.Core.List.{_++_};
+ghost use Prim.Native.Nat.{_≤_};
+ghost use lib.ListN.{length, take, drop};
+ghost use Rattle.event.specs.declared.events.Made.the-variants as made;
 ghost use Rattle.event.specs.Events.{InRange, eventOf};
-ghost use Rattle.file.specs.Writing.{wholeOf, writtenOf};
+ghost use Rattle.file.specs.Writing.{wholeOf, writtenOf, putAnswer, putInto};
 
 // The least number that takes two groups.
 const TWO_GROUPS: u8 = 128;
+
+// What a refusal's number is added to where the answer is one number.
+const REFUSED: u32 = 512;
 
 // The bytes with their count, places past the count 0, and 0 for the refusal; of a refused event no byte, and its number.
 pub struct Written {
@@ -68,5 +75,44 @@ pub fn write(kind: u64, x: u64, y: u64, z: u64) -> Written
             count: 0,
             refusal: refusal.number(),
         },
+    }
+}
+
+// The first bytes of an array, put at the start of a buffer that has room for them.
+fn put_front(out: &mut [u8], bytes: [u8; 5], count: usize)
+    requires { ⌜ (count ≤ 5) × (count ≤ length (now out)) ⌝ }
+    ensures { λ _. ⌜ now (out .exit) ≡ take count bytes ++ drop count (now (out .entry)) ⌝ }
+{
+    let mut i = 0;
+    while i < count {
+        out[i] = bytes[i];
+        i += 1;
+    }
+}
+
+fn put_written(out: &mut [u8], event: Event) -> u32
+    requires { ⌜ InRange event ⌝ }
+    ensures { λ r. ⌜ r ≡ putAnswer (made.Event event) (length (now (out .entry))) ⌝ }
+    ensures { λ _. ⌜ now (out .exit) ≡ putInto (made.Event event) (now (out .entry)) ⌝ }
+{
+    let written = event_bytes(event);
+    let count = written.count as usize;
+    if out.len() < count {
+        return 0;
+    }
+    let bytes = written.bytes;
+    put_front(out, bytes, count);
+    count as u32
+}
+
+// The event of plain numbers, written at the start of a buffer where it fits: the count of its bytes, 0 where it does
+// not fit, or 512 and the refusal number.
+pub fn put_event(out: &mut [u8], kind: u64, x: u64, y: u64, z: u64) -> u32
+    ensures { λ r. ⌜ r ≡ putAnswer (eventOf kind x y z) (length (now (out .entry))) ⌝ }
+    ensures { λ _. ⌜ now (out .exit) ≡ putInto (eventOf kind x y z) (now (out .entry)) ⌝ }
+{
+    match event_of(kind, x, y, z) {
+        Made::Event(event) => put_written(out, event),
+        Made::Refused(refusal) => REFUSED + refusal.number() as u32,
     }
 }
