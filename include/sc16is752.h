@@ -6,15 +6,17 @@
  * - Only these two functions write the record. Reading it, and copying it whole to another record, is free. A record from
  *   anywhere else has to be well formed: in each queue start < 64 and count <= 64, in rx every mark < 8, in line
  *   quiet <= 4, in modem pins < 16 and changes < 16, and in every bool 0 or 1.
- * - While a call runs, nothing else touches its record: one thread at a time, and no signal handler between.
+ * - bytes is not null and points to length bytes that the caller may read and write; a length of 0 will do.
+ * - While a call runs, nothing else touches its record or its bytes: one thread at a time, and no signal handler between.
  *
- * In return, each record and each answer is exactly what the document's rules say of the record before and the event,
- * and the record is well formed again. The functions keep no other state, allocate nothing and do not fail.
+ * In return, each record, each byte and each answer is exactly what the document's rules say of the record before and the
+ * event, and the record is well formed again. The functions keep no other state, allocate nothing and do not fail.
  */
 #ifndef SC16IS752_H
 #define SC16IS752_H
 
 #include <stdbool.h>
+#include <stddef.h>
 #include <stdint.h>
 
 #ifdef __cplusplus
@@ -102,6 +104,17 @@ void sc16is752_new(struct sc16is752 *chip);
  * Answers the reply, or SC16IS752_REFUSED plus the refusal number; a refused event leaves the record as it was. */
 uint32_t sc16is752_step(struct sc16is752 *chip, uint64_t kind, uint64_t x, uint64_t y, uint64_t z);
 
+/* Writes an event of an event file: its bytes are put at the start of bytes, if there is room for them, and what is behind
+ * them stays as it was. Answers their count, or 0 if there is no room, or SC16IS752_REFUSED plus the refusal number; with
+ * these two bytes stays as it was. Put one behind the other, such bytes are a file that the bench program runs. */
+uint32_t sc16is752_event_bytes(uint64_t kind, uint64_t x, uint64_t y, uint64_t z, uint8_t *bytes, size_t length);
+
+/* The most bytes that an event takes, and that an event file may have. */
+enum {
+    SC16IS752_LONGEST_EVENT = 5,
+    SC16IS752_LONGEST_FILE = 65536
+};
+
 /* Kinds. Operands and reply stand beside each. */
 enum {
     SC16IS752_WRITE = 0,    /* channel, address, byte: 0 */
@@ -121,7 +134,7 @@ enum {
     SC16IS752_REFUSED = 512
 };
 
-/* Refusal numbers. A step knows 3 to 8; the others are of event files. */
+/* Refusal numbers. A step and the writer know 3 to 8; the others are met where a file is read. */
 enum {
     SC16IS752_REFUSED_NUMBER = 1,
     SC16IS752_REFUSED_SHORT = 2,

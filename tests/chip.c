@@ -1,4 +1,5 @@
-/* Document 01's listing and every refusal of a step, through the C interface. Silent where all answers are as expected. */
+/* Document 01's listing, every refusal, and events of every kind as they are written, through the C interface. Silent where
+ * all answers are as expected. */
 #include "sc16is752.h"
 
 #include <stdio.h>
@@ -47,6 +48,29 @@ static const struct try refusals[] = {
     {SC16IS752_RTS_LOOK, 2, 0, 0, REFUSED(4)},
 };
 
+/* Events of every kind, as the number rule of document 01 writes them. */
+static const struct written {
+    uint64_t kind, x, y, z;
+    uint32_t count;
+    uint8_t bytes[SC16IS752_LONGEST_EVENT];
+} written[] = {
+    {SC16IS752_WRITE, 0, SC16IS752_LCR, 0x03, 4, {0x00, 0x00, 0x03, 0x03}},
+    {SC16IS752_WRITE, 1, SC16IS752_EFCR, 127, 4, {0x00, 0x01, 0x0F, 0x7F}},
+    {SC16IS752_WRITE, 1, SC16IS752_EFCR, 128, 5, {0x00, 0x01, 0x0F, 0x80, 0x01}},
+    {SC16IS752_WRITE, 0, SC16IS752_THR, 255, 5, {0x00, 0x00, 0x00, 0xFF, 0x01}},
+    {SC16IS752_READ, 1, SC16IS752_LSR, UINT64_MAX, 3, {0x01, 0x01, 0x05}},
+    {SC16IS752_ARRIVAL, 0, 0x41, 1, 4, {0x02, 0x00, 0x41, 0x01}},
+    {SC16IS752_ARRIVAL, 1, 127, 7, 4, {0x02, 0x01, 0x7F, 0x07}},
+    {SC16IS752_ARRIVAL, 1, 128, 0, 5, {0x02, 0x01, 0x80, 0x01, 0x00}},
+    {SC16IS752_ARRIVAL, 0, 200, 7, 5, {0x02, 0x00, 0xC8, 0x01, 0x07}},
+    {SC16IS752_SLOT, 1, UINT64_MAX, UINT64_MAX, 2, {0x03, 0x01}},
+    {SC16IS752_PINS, 0, 15, UINT64_MAX, 3, {0x04, 0x00, 0x0F}},
+    {SC16IS752_QUIET, 0, UINT64_MAX, UINT64_MAX, 2, {0x05, 0x00}},
+    {SC16IS752_RESET, UINT64_MAX, UINT64_MAX, UINT64_MAX, 1, {0x06}},
+    {SC16IS752_IRQ_LOOK, UINT64_MAX, UINT64_MAX, UINT64_MAX, 1, {0x07}},
+    {SC16IS752_RTS_LOOK, 1, UINT64_MAX, UINT64_MAX, 2, {0x08, 0x01}},
+};
+
 static int wrong;
 
 static void try(struct sc16is752 *chip, const struct try *t)
@@ -54,6 +78,23 @@ static void try(struct sc16is752 *chip, const struct try *t)
     uint32_t answer = sc16is752_step(chip, t->kind, t->x, t->y, t->z);
     if (answer != t->answer) {
         printf("kind %llu: %u expected, %u given\n", (unsigned long long)t->kind, (unsigned)t->answer, (unsigned)answer);
+        wrong = 1;
+    }
+}
+
+/* An event written to so many bytes of a larger buffer: the answer, so many of the bytes put, and all else as it was. */
+static void try_written(const struct try *t, const uint8_t *bytes, size_t put, size_t length)
+{
+    enum { AROUND = 8 };
+    uint8_t buffer[AROUND + SC16IS752_LONGEST_EVENT + AROUND], expected[sizeof buffer];
+    memset(buffer, 0xA5, sizeof buffer);
+    memset(expected, 0xA5, sizeof expected);
+    for (size_t i = 0; i < put; i++)
+        expected[AROUND + i] = bytes[i];
+    uint32_t answer = sc16is752_event_bytes(t->kind, t->x, t->y, t->z, buffer + AROUND, length);
+    if (answer != t->answer || memcmp(buffer, expected, sizeof buffer) != 0) {
+        printf("kind %llu written to %zu bytes: %u expected, %u given, or other bytes\n", (unsigned long long)t->kind, length,
+            (unsigned)t->answer, (unsigned)answer);
         wrong = 1;
     }
 }
@@ -79,5 +120,17 @@ int main(void)
     const struct try reset = {SC16IS752_RESET, UINT64_MAX, UINT64_MAX, UINT64_MAX, 0};
     try(&chip, &looks);
     try(&chip, &reset);
+
+    /* In every room: where an event fits its bytes and nothing else, else nothing; of a refused event nothing. */
+    for (size_t length = 0; length <= SC16IS752_LONGEST_EVENT; length++) {
+        for (size_t i = 0; i < sizeof written / sizeof written[0]; i++) {
+            const struct written *w = &written[i];
+            uint32_t put = w->count <= length ? w->count : 0;
+            const struct try t = {w->kind, w->x, w->y, w->z, put};
+            try_written(&t, w->bytes, put, length);
+        }
+        for (size_t i = 0; i < sizeof refusals / sizeof refusals[0]; i++)
+            try_written(&refusals[i], NULL, 0, length);
+    }
     return wrong;
 }
