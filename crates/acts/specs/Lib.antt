@@ -3,3 +3,4 @@ pub mod Touches
 pub mod Acts
 pub mod Step
 pub mod Laws
+pub mod Settled

@@ -2,3 +2,4 @@
 pub mod Reset
 pub mod Device
 pub mod Laws
+pub mod Settled

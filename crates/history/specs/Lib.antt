@@ -1,4 +1,5 @@
--- Demand 3: the judge and the claims are what a reader must believe; the files behind them prove the claims. Then P1 to P12.
+-- Demand 3: the judge and the claims are what a reader must believe; the files behind them prove the claims. Then the rules that
+-- judge and device share, what looks leave alone, and P1 to P12.
 pub mod Judge
 pub mod Demand3
 pub mod Tally
@@ -7,9 +8,10 @@ pub mod Agreement
 pub mod Order
 pub mod Reads
 pub mod Proved
-pub mod Rules
 pub mod Alone
 pub mod Numbers
 pub mod Files
 pub mod Lent
+pub mod Rules
+pub mod Looks
 pub mod Table

@@ -1,7 +1,9 @@
--- Laws: the THR flag as it is computed.
+-- Laws: the THR flag as it is computed, that it stands only where its condition holds, and that flags settled again stay.
 use mathlib.Core.Path.{_≡_, refl}
 use mathlib.Core.Bool.{Bool, true, false, not, _&&_, _||_}
-use Rattle.interrupts.specs.Flags.{thrSettled}
+use Rattle.interrupts.specs.declared.flags.Flags.{Flags}
+use Rattle.interrupts.specs.declared.flags.Moment.{Moment}
+use Rattle.interrupts.specs.Flags.{thrSettled, flagsSettled}
 
 pub thr-in-one : (flag before after : Bool) → after && (flag || not before) ≡ thrSettled flag before after
 unfolding thrSettled
@@ -10,3 +12,25 @@ thr-in-one true true true = refl
 thr-in-one true false true = refl
 thr-in-one false true true = refl
 thr-in-one false false true = refl
+
+-- "clears if it is false": a flag that stands after an event has its condition
+pub thr-has-condition : (flag before after : Bool) → thrSettled flag before after ≡ true → after ≡ true
+unfolding thrSettled
+thr-has-condition flag before false h = h
+thr-has-condition flag before true h = refl
+
+-- a moment that is no other than the one before raises no flag, and clears none that has its condition
+rts-stays : (flag rts : Bool) → flag || rts && not rts ≡ flag
+rts-stays true rts = refl
+rts-stays false true = refl
+rts-stays false false = refl
+
+thr-stays : (flag condition : Bool) → (flag ≡ true → condition ≡ true) → thrSettled flag condition condition ≡ flag
+unfolding thrSettled
+thr-stays flag true has = refl
+thr-stays true false has = has refl
+thr-stays false false has = refl
+
+pub flags-stay : (f : Flags) (now : Moment) → (f .thr ≡ true → now .thr ≡ true) → flagsSettled f now now ≡ f
+unfolding flagsSettled
+flags-stay f now has = rw (rts-stays (f .rts) (now .rts), thr-stays (f .thr) (now .thr) has)

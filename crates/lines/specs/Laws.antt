@@ -1,13 +1,19 @@
--- Laws: the pins and their changes stay four bits each.
+-- Laws: the pins and their changes stay four bits each; the latch rule applied twice is the latch rule.
 use Prim.Native.Nat.{ℕ, _<_}
 use native.Mathlib.Omega.{arith}
+use mathlib.Core.Path.{_≡_, refl}
+use mathlib.Core.Bool.{Bool, true, false, not}
 use lib.Bits.{bitXor, or-lt, xor-lt}
-use Rattle.bits.specs.Choice.{pick-by}
+use Rattle.bits.specs.Choice.{pick, pick-by}
+use Rattle.bits.specs.Bits.{bitAt}
+use Rattle.registers.specs.declared.levels.Characters.{Characters}
 use Rattle.registers.specs.declared.register.Register.{Register}
 use Rattle.registers.specs.declared.register.Register.the-variants as register
+use Rattle.registers.specs.declared.settings.Settings.{Settings}
 use Rattle.registers.specs.Windows.{same}
 use Rattle.lines.specs.declared.modem.Modem.{Modem}
 use Rattle.lines.specs.Modem.{pinsChanged, modemRead}
+use Rattle.lines.specs.Rts.{haltReached, resumeReached, latchAfter}
 
 pub record ModemIn (m : Modem) : Type 0 where
   pub pins-in : m .pins < 16
@@ -28,3 +34,17 @@ modem-changed m value v h =
       pins-in = v;
       changes-in = or-lt 4 (m .changes) (bitXor (m .pins) value) (h .changes-in) (xor-lt 4 (m .pins) value (h .pins-in) v);
     }
+
+-- ---- a latch that the rule has made is what the rule makes of it
+picked-once : (clear halt resume latch : Bool)
+    → pick clear true (pick halt false (pick resume true (pick clear true (pick halt false (pick resume true latch)))))
+    ≡ pick clear true (pick halt false (pick resume true latch))
+picked-once true halt resume latch = refl
+picked-once false true resume latch = refl
+picked-once false false true latch = refl
+picked-once false false false latch = refl
+
+pub latch-once : (s : Settings) (received : Characters) (latch : Bool)
+    → latchAfter s received (latchAfter s received latch) ≡ latchAfter s received latch
+unfolding latchAfter
+latch-once s received latch = picked-once (not (bitAt (s .efr) 6)) (haltReached s received) (resumeReached s received) latch
