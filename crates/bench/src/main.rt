@@ -4,7 +4,7 @@ use libc::STDOUT_FILENO;
 use run::Cursor;
 ghost use mathlib.Core.Path.{_≡_};
 ghost use Prim.Native.Nat.{_≤_};
-ghost use lib.ListN.{length};
+ghost use lib.ListN.{length, take};
 ghost use Rattle.run.specs.Cursor.{WellFormed, cursorAfter};
 ghost use Rattle.bench.specs.Program.{Within};
 
@@ -21,10 +21,11 @@ struct Turn {
     written: bool,
 }
 
-// One read into the buffer from a place on.
+// One read into the buffer from a place on: what stood before it stays. Of the bytes that come, `libc::read` says nothing.
 fn read_from(buffer: &mut [u8], at: usize) -> Input
     requires { ⌜ at ≤ length (now buffer) ⌝ }
     ensures { λ r. ⌜ Within at (length (now (buffer .entry))) r ⌝ }
+    ensures { λ r. ⌜ take at (now (buffer .exit)) ≡ take at (now (buffer .entry)) ⌝ }
 {
     let rest = &mut buffer[at..];
     let got = libc::read(STDIN_FILENO, rest);
@@ -34,7 +35,8 @@ fn read_from(buffer: &mut [u8], at: usize) -> Input
     Input::Bytes(io::count(got, rest))
 }
 
-// Reads until the buffer is full or the input ends. What came before a read that fails is no whole input, and is not run.
+// Reads until the buffer is full or the input ends, each time from where the last read ended, so that none is overwritten.
+// What came before a read that fails is no whole input, and is not run.
 fn read_input(buffer: &mut [u8]) -> Input
     ensures { λ r. ⌜ Within 0 (length (now (buffer .entry))) r ⌝ }
 {
