@@ -7,6 +7,7 @@ use lib.Dec.{eqb, ltb}
 use borrow.Author.Tests.{le-ltb, eqb-true, eqb-false, ltb-true, ltb-false}
 use Rattle.bits.specs.Choice.{pick, pick-by}
 use Rattle.event.specs.declared.refusal.Refusal.{Refusal}
+use Rattle.event.specs.declared.refusal.Refusal.the-variants as refusal
 use Rattle.event.specs.declared.events.Touch.{Touch}
 use Rattle.event.specs.declared.events.Touch.the-variants as touch
 use Rattle.event.specs.declared.events.Event.{Event}
@@ -15,6 +16,18 @@ use Rattle.event.specs.declared.events.Made.{Made}
 use Rattle.event.specs.declared.events.Made.the-variants as made
 use Rattle.event.specs.Refusals.{refusalNumber}
 use Rattle.event.specs.Events.{operandCount, onChannel, eventOf, Numbers, numbersOf, judgedOf, InRange}
+
+-- no refusal has the number 0
+pub refusal-some : (r : Refusal) → 0 < refusalNumber r
+refusal-some refusal.Number = omega arith
+refusal-some refusal.Short = omega arith
+refusal-some refusal.Kind = omega arith
+refusal-some refusal.Channel = omega arith
+refusal-some refusal.Address = omega arith
+refusal-some refusal.Byte = omega arith
+refusal-some refusal.Mark = omega arith
+refusal-some refusal.Pins = omega arith
+refusal-some refusal.Long = omega arith
 
 -- the numbers that are looked at: 0 for the operands that the kind lacks
 abbrev pub lookedAt : Numbers → Numbers

@@ -7,7 +7,6 @@ ghost use mathlib.Core.Path.{_≡_};
 ghost use mathlib.Core.List.{_++_};
 ghost use Prim.Native.Nat.{_≤_};
 ghost use lib.ListN.{length, take, drop};
-ghost use Rattle.event.specs.declared.events.Made.the-variants as made;
 ghost use Rattle.event.specs.Events.{InRange, eventOf};
 ghost use Rattle.file.specs.Writing.{wholeOf, writtenOf, putAnswer, putInto};
 
@@ -90,12 +89,16 @@ fn put_front(out: &mut [u8], bytes: [u8; 5], count: usize)
     }
 }
 
-fn put_written(out: &mut [u8], event: Event) -> u32
-    requires { ⌜ InRange event ⌝ }
-    ensures { λ r. ⌜ r ≡ putAnswer (made.Event event) (length (now (out .entry))) ⌝ }
-    ensures { λ _. ⌜ now (out .exit) ≡ putInto (made.Event event) (now (out .entry)) ⌝ }
+// The event of plain numbers, written at the start of a buffer where it fits: the count of its bytes, 0 where it does
+// not fit, or 512 and the refusal number.
+pub fn put_event(out: &mut [u8], kind: u64, x: u64, y: u64, z: u64) -> u32
+    ensures { λ r. ⌜ r ≡ putAnswer (eventOf kind x y z) (length (now (out .entry))) ⌝ }
+    ensures { λ _. ⌜ now (out .exit) ≡ putInto (eventOf kind x y z) (now (out .entry)) ⌝ }
 {
-    let written = event_bytes(event);
+    let written = write(kind, x, y, z);
+    if written.refusal != 0 {
+        return REFUSED + (written.refusal as u32);
+    }
     let count = written.count as usize;
     if out.len() < count {
         return 0;
@@ -103,16 +106,4 @@ fn put_written(out: &mut [u8], event: Event) -> u32
     let bytes = written.bytes;
     put_front(out, bytes, count);
     count as u32
-}
-
-// The event of plain numbers, written at the start of a buffer where it fits: the count of its bytes, 0 where it does
-// not fit, or 512 and the refusal number.
-pub fn put_event(out: &mut [u8], kind: u64, x: u64, y: u64, z: u64) -> u32
-    ensures { λ r. ⌜ r ≡ putAnswer (eventOf kind x y z) (length (now (out .entry))) ⌝ }
-    ensures { λ _. ⌜ now (out .exit) ≡ putInto (eventOf kind x y z) (now (out .entry)) ⌝ }
-{
-    match event_of(kind, x, y, z) {
-        Made::Event(event) => put_written(out, event),
-        Made::Refused(refusal) => REFUSED + refusal.number() as u32,
-    }
 }

@@ -1,24 +1,51 @@
-use mathlib.Core.Path.{refl, sym, _∙_}
+use Prim.Native.Nat.{ℕ, _+_, _<_, _≤_}
+use native.Mathlib.Omega.{arith}
+use mathlib.Core.Path.{_≡_, refl, ap}
+use mathlib.Core.List.{List, _++_}
+use lib.ListN.{length, take, drop}
+use lib.Seq.{take-append-seam}
 use borrow.Author.Needs.{needs}
-use Rattle.event.specs.Laws.{made-in-range}
-use Rattle.file.specs.Writing.{putAnswer, putInto}
+use borrow.Author.Tests.{le-leb, lt-leb}
+use Rattle.event.specs.declared.events.Made.{Made}
+use Rattle.event.specs.declared.events.Made.the-variants as made
+use Rattle.event.specs.Events.{eventOf}
+use Rattle.event.specs.Laws.{refusal-some}
+use Rattle.file.specs.declared.writing.Written.{Written}
+use Rattle.file.specs.Writing.{bytesOf, padded, wholeOf, writtenOf, putAnswer, putInto}
+use Rattle.file.specs.Theorems.{written-five-at-most}
 use Rattle.file.proofs.writing.put_event.Statement.{statement}
 use Rattle.file.proofs.writing.put_event.Tie as tie
 
-event-of-requires : tie.Need-event-of-requires
-event-of-requires c κs = search needs
+-- what is answered and left of a buffer, by what was written of an event
+abbrev Put : Made → List ℕ → ℕ → List ℕ → Type 0
+Put m out answer after = (answer ≡ putAnswer m (length out)) × (after ≡ putInto m out)
 
-enum-known-event : tie.Need-enum-known-event
-enum-known-event c = search needs
+module _ (out : List ℕ) where
+  refused : (m : Made) (w : Written) → w ≡ writtenOf m → (w .refusal ≡ 0 → ⊥) → Put m out (512 + w .refusal) out
+  unfolding writtenOf wholeOf padded putAnswer putInto
+  refused (made.Event e) w is some = absurd (some (ap (λ (x : Written). x .refusal) is))
+  refused (made.Refused r) w is some = (rw is, refl)
 
-put-written-requires : tie.Need-put-written-requires
-put-written-requires c κs = made-in-range _ _ _ _ (sym (c .before .before .before .before .event-of .ensures) ∙ c .before .before .event .given .1)
+  too-long : (m : Made) (w : Written) → w ≡ writtenOf m → w .refusal ≡ 0 → length out < w .count → Put m out 0 out
+  unfolding writtenOf wholeOf padded putAnswer putInto
+  too-long (made.Event e) w is none short =
+      let no : length out < length (bytesOf e) = rw is at short in
+      rw (lt-leb (length (bytesOf e)) (length out) no) (refl, refl)
+  too-long (made.Refused r) w is none short = absurd (omega (arith, refusal-some r, rw is at none))
 
-enum-known-refusal : tie.Need-enum-known-refusal
-enum-known-refusal c = search needs
+  fitting : (m : Made) (w : Written) (after : List ℕ) → w ≡ writtenOf m → w .refusal ≡ 0 → w .count ≤ length out
+      → after ≡ take (w .count) (w .bytes) ++ drop (w .count) out → Put m out (w .count) after
+  unfolding writtenOf wholeOf padded putAnswer putInto
+  fitting (made.Event e) w after is none room put =
+      let yes : length (bytesOf e) ≤ length out = rw is at room in
+      rw (put, is, le-leb (length (bytesOf e)) (length out) yes, take-append-seam) (refl, refl)
+  fitting (made.Refused r) w after is none room put = absurd (omega (arith, refusal-some r, rw is at none))
 
-number-requires : tie.Need-number-requires
-number-requires c κs = search needs
+five : (kind x y z : ℕ) (w : Written) → w ≡ writtenOf (eventOf kind x y z) → w .count ≤ 5
+five kind x y z w is = rw is (written-five-at-most kind x y z .1)
+
+write-requires : tie.Need-write-requires
+write-requires c κs = search needs
 
 cast-result : tie.Need-cast-result
 cast-result c = search needs
@@ -26,28 +53,38 @@ cast-result c = search needs
 add-result : tie.Need-add-result
 add-result c = search needs
 
+returns : tie.Need-returns
+returns c = refused _ _ _ (c .before .before .before .write .ensures) (c .before .if1 .taken)
+
+cast-count : tie.Need-cast-count
+cast-count c = search needs
+
+returns-2 : tie.Need-returns-2
+returns-2 c = too-long _ _ _ (c .before .before .before .before .write .ensures) (c .before .before .if1 .left) (c .if2 .taken)
+
+put-front-requires : tie.Need-put-front-requires
+put-front-requires c κs = (five _ _ _ _ _ (c .before .before .before .before .before .before .write .ensures), c .before .before .if2 .left)
+
+cast-result-2 : tie.Need-cast-result-2
+cast-result-2 c = search needs
+
 same-length : tie.Need-same-length
 same-length c = search needs
 
-returns : tie.Need-returns
-unfolding putAnswer putInto
-returns c = simp (c .before .before .put-written .ensures .0, c .before .before .put-written .ensures .1, c .before .before .before .before .before .event .given .1, ← (c .before .before .before .before .before .before .before .event-of .ensures)) (refl, refl)
-
-returns-2 : tie.Need-returns-2
-unfolding putAnswer putInto
-returns-2 c = simp (c .number .ensures, c .before .before .refusal .given .1, ← (c .before .before .before .before .event-of .ensures)) (refl, refl)
+returns-3 : tie.Need-returns-3
+returns-3 c = fitting _ _ _ _ (c .before .before .before .before .before .before .before .before .before .write .ensures) (c .before .before .before .before .before .before .before .if1 .left) (c .before .before .before .before .before .if2 .left) (c .before .before .put-front .ensures)
 
 pub put-event-spec : {M : Type 1} → statement M
 put-event-spec =
     tie.close
     (tie.spec
-    event-of-requires
-    enum-known-event
-    put-written-requires
-    enum-known-refusal
-    number-requires
+    write-requires
     cast-result
     add-result
-    same-length
     returns
-    returns-2)
+    cast-count
+    returns-2
+    put-front-requires
+    cast-result-2
+    same-length
+    returns-3)
