@@ -1,12 +1,14 @@
--- Laws: what a step comes to for the stored registers and the queues, and that a channel's record stays well formed.
-use Prim.Native.Nat.{_≤_}
+-- Laws: what a step comes to for the stored registers and the queues, and that acts, steps and a channel's record stay within
+-- their bounds.
+use Prim.Native.Nat.{ℕ, _≤_}
 use native.Mathlib.Omega.{arith}
 use mathlib.Core.Path.{_≡_, refl, ap}
-use mathlib.Core.Bool.{false}
+use mathlib.Core.Bool.{Bool, false}
 use borrow.Author.Tests.{not-false}
 use Rattle.bits.specs.Choice.{pick-by}
+use Rattle.bits.specs.Laws.{flag-in}
 use Rattle.queue.specs.Queue.{Fits, afterOf, changed}
-use Rattle.queue.specs.Laws.{well-formed-changed, MarkBelow, marks-below-changed, fits-moved}
+use Rattle.queue.specs.Laws.{well-formed-changed, oldest-byte-below, ChangeIn, moved-in, fits-moved}
 use Rattle.event.specs.declared.events.Touch.{Touch}
 use Rattle.event.specs.declared.events.Touch.the-variants as touch
 use Rattle.event.specs.Events.{TouchIn}
@@ -14,20 +16,23 @@ use Rattle.registers.specs.declared.register.Register.the-variants as register
 use Rattle.registers.specs.declared.settings.Settings.{Settings}
 use Rattle.registers.specs.Windows.{same, registerAt}
 use Rattle.registers.specs.Writes.{withSetting}
-use Rattle.registers.specs.Queues.{roomOf, clears}
-use Rattle.registers.specs.Laws.{same-is, closed-sets-none, room-in}
+use Rattle.registers.specs.Bounds.{SettingIn, SettingsIn}
+use Rattle.registers.specs.Queues.{roomOf, clears, loads}
+use Rattle.registers.specs.Laws.{same-is, closed-sets-none, room-in, none-in, setting-in}
+use Rattle.receiver.specs.declared.line.Line.{Line}
 use Rattle.receiver.specs.Arrivals.{doesPass, heardOf}
-use Rattle.receiver.specs.Line.{lineArrived}
-use Rattle.receiver.specs.Laws.{quiet-read, quiet-cleared, quiet-quieter}
+use Rattle.receiver.specs.Laws.{quiet-arrived, quiet-read, quiet-cleared, quiet-quieter, heard-in, arrived-fits, fate-in}
 use Rattle.lines.specs.Transmit.{transmitRoom}
-use Rattle.lines.specs.Laws.{ModemIn, modem-read, modem-changed}
+use Rattle.lines.specs.Modem.{ctsAsserted}
+use Rattle.lines.specs.Laws.{modem-read, modem-changed, shift-loaded, slot-in}
 use Rattle.channel.specs.declared.channel.Channel.{Channel}
 use Rattle.channel.specs.declared.state.State.{State}
-use Rattle.channel.specs.State.{withLine, withShift, withModem, withFlags, withLatch}
-use Rattle.channel.specs.Channel.{WellFormed}
-use Rattle.acts.specs.Touches.{settingsAfter, receiveChange, resetsBy}
-use Rattle.acts.specs.Acts.{received, sentChange, sent, actWith, writeAct, readAct, arrivalAct, slotAct, pinsAct, quietAct, lookAct, actOf}
+use Rattle.channel.specs.State.{LinesIn, withLine}
+use Rattle.channel.specs.Channel.{WellFormed, rtsAsserted, shownAt}
 use Rattle.channel.specs.Settle.{settledOf, afterStep}
+use Rattle.channel.specs.Laws.{with-line-in, with-shift-in, with-modem-in, with-flags-in, ActIn, StepIn, settled-in, well-formed-stepped, read-fits}
+use Rattle.acts.specs.Touches.{settingBy, settingsAfter, receiveChange, sentBy, transmitChange, resetsBy}
+use Rattle.acts.specs.Acts.{received, sentChange, sent, actWith, writeAct, readAct, arrivalAct, slotAct, pinsAct, quietAct, lookAct, actOf}
 use Rattle.acts.specs.Step.{stepAt, touchedBy}
 
 -- ---- what every act has of the stored registers
@@ -90,65 +95,86 @@ module _ (ch : Channel) (t : Touch) where
   unfolding afterStep
   touched-rx = rw step-rx
 
-  touched-tx : touchedBy ch t .tx ≡ changed (ch .tx) (sentChange ch t) transmitRoom
-  unfolding afterStep
-  touched-tx = rw step-tx
-
--- ---- a record stays well formed
--- the lines within their bounds
-record LinesIn (lines : State) : Type 0 where
-  quiet-in : lines .line .quiet ≤ 4
-  modem-in : ModemIn (lines .modem)
-
-act-lines-in : (ch : Channel) (t : Touch) → TouchIn t → LinesIn (ch .state) → LinesIn (actOf ch t .state)
-unfolding actOf actWith writeAct readAct arrivalAct slotAct pinsAct quietAct lookAct withLine withShift withModem withFlags lineArrived
-act-lines-in ch (touch.Write address byte) v h =
-    record {
-      quiet-in = quiet-cleared (ch .state .line) (clears (ch .settings) (registerAt (ch .settings) address) byte 1) (h .quiet-in);
-      modem-in = h .modem-in;
-    }
-act-lines-in ch (touch.Read address) v h =
-    record {
-      quiet-in = quiet-read (ch .state .line) (registerAt (ch .settings) address) (h .quiet-in);
-      modem-in = modem-read (ch .state .modem) (registerAt (ch .settings) address) (h .modem-in);
-    }
-act-lines-in ch (touch.Arrival byte mark) v h = record { quiet-in = omega arith; modem-in = h .modem-in }
-act-lines-in ch touch.Slot v h = record { quiet-in = h .quiet-in; modem-in = h .modem-in }
-act-lines-in ch (touch.Pins value) v h = record { quiet-in = h .quiet-in; modem-in = modem-changed (ch .state .modem) value v (h .modem-in) }
-act-lines-in ch touch.Quiet v h = record { quiet-in = quiet-quieter (ch .state .line) (h .quiet-in); modem-in = h .modem-in }
-act-lines-in ch touch.RtsLook v h = h
-
-touched-lines-in : (ch : Channel) (t : Touch) → TouchIn t → LinesIn (ch .state) → LinesIn (touchedBy ch t .state)
-unfolding afterStep stepAt settledOf withLatch withFlags
-touched-lines-in ch t v h =
-    record { quiet-in = act-lines-in ch t v h .quiet-in; modem-in = act-lines-in ch t v h .modem-in }
-
-received-mark : (s : Settings) (t : Touch) → TouchIn t → MarkBelow 8 (receiveChange s t)
+-- ---- an event in range: its act and its step are within their bounds, and the channel's record stays well formed
+received-in : (s : Settings) (t : Touch) → TouchIn t → ChangeIn (receiveChange s t)
 unfolding receiveChange
-received-mark s (touch.Write address byte) v = pick-by (MarkBelow 8) (clears s (registerAt s address) byte 1) (λ _. tt) (λ _. tt)
-received-mark s (touch.Read address) v = pick-by (MarkBelow 8) (same (registerAt s address) register.RhrThr) (λ _. tt) (λ _. tt)
-received-mark s (touch.Arrival byte mark) v = pick-by (MarkBelow 8) (doesPass (heardOf s byte mark .gate)) (λ _. v .1) (λ _. tt)
-received-mark s touch.Slot v = tt
-received-mark s (touch.Pins value) v = tt
-received-mark s touch.Quiet v = tt
-received-mark s touch.RtsLook v = tt
+received-in s (touch.Write address byte) v = pick-by ChangeIn (clears s (registerAt s address) byte 1) (λ _. tt) (λ _. tt)
+received-in s (touch.Read address) v = pick-by ChangeIn (same (registerAt s address) register.RhrThr) (λ _. tt) (λ _. tt)
+received-in s (touch.Arrival byte mark) v =
+    pick-by ChangeIn (doesPass (heardOf s byte mark .gate)) (λ _. record { byte-in = arrived-fits s byte mark (v .0); mark-in = v .1 }) (λ _. tt)
+received-in s touch.Slot v = tt
+received-in s (touch.Pins value) v = tt
+received-in s touch.Quiet v = tt
+received-in s touch.RtsLook v = tt
+
+sent-in : (s : Settings) (cts : Bool) (t : Touch) → TouchIn t → ChangeIn (transmitChange s cts t)
+unfolding transmitChange sentBy
+sent-in s cts (touch.Write address byte) v =
+    pick-by ChangeIn (same (registerAt s address) register.RhrThr) (λ _. record { byte-in = v .1; mark-in = omega arith })
+    (λ _. pick-by ChangeIn (clears s (registerAt s address) byte 2) (λ _. tt) (λ _. tt))
+sent-in s cts (touch.Read address) v = tt
+sent-in s cts (touch.Arrival byte mark) v = tt
+sent-in s cts touch.Slot v = pick-by ChangeIn (loads s cts) (λ _. tt) (λ _. tt)
+sent-in s cts (touch.Pins value) v = tt
+sent-in s cts touch.Quiet v = tt
+sent-in s cts touch.RtsLook v = tt
+
+setting-by-in : (s : Settings) (t : Touch) → TouchIn t → SettingsIn s → SettingIn (settingBy s t)
+unfolding settingBy
+setting-by-in s (touch.Write address byte) v ok = setting-in s ok byte (v .1) (registerAt s address)
+setting-by-in s (touch.Read address) v ok = none-in
+setting-by-in s (touch.Arrival byte mark) v ok = heard-in s ok byte mark
+setting-by-in s touch.Slot v ok = none-in
+setting-by-in s (touch.Pins value) v ok = none-in
+setting-by-in s touch.Quiet v ok = none-in
+setting-by-in s touch.RtsLook v ok = none-in
+
+-- with the lines and the reply of its kind
+module _ (ch : Channel) (ok : WellFormed ch) where
+  act-with-in : (t : Touch) (lines : State) (reply : ℕ) → TouchIn t → LinesIn lines → reply ≤ 256 → ActIn (actWith ch t lines reply)
+  unfolding actWith
+  act-with-in t lines reply v l r =
+      record {
+        setting-in = setting-by-in (ch .settings) t v (ok .settings-in);
+        lines-in = l;
+        rx-in = moved-in (ch .rx) (receiveChange (ch .settings) t) (roomOf (ch .settings)) (ok .rx-in) (room-in (ch .settings)) (received-in (ch .settings) t v);
+        tx-in = moved-in (ch .tx) (sentChange ch t) transmitRoom (ok .tx-in) (omega arith) (sent-in (ch .settings) (ctsAsserted (ch .state .modem)) t v);
+        reply-in = r;
+      }
+
+  abbrev lined : (line : Line) → line .quiet ≤ 4 → LinesIn (withLine (ch .state) line)
+  lined = with-line-in (ch .state) (ok .lines-in)
+
+  pub act-in : (t : Touch) → TouchIn t → ActIn (actOf ch t)
+  unfolding actOf writeAct readAct arrivalAct slotAct pinsAct quietAct lookAct
+  act-in (touch.Write address byte) v =
+      act-with-in (touch.Write address byte) _ 0 v
+      (lined _ (quiet-cleared (ch .state .line) (clears (ch .settings) (registerAt (ch .settings) address) byte 1) (ok .lines-in .quiet-in)))
+      (omega arith)
+  act-in (touch.Read address) v =
+      let read = registerAt (ch .settings) address in
+      act-with-in (touch.Read address) _ _ v
+      (with-flags-in _
+      (with-modem-in _ (lined _ (quiet-read (ch .state .line) read (ok .lines-in .quiet-in))) _ (modem-read (ch .state .modem) read (ok .lines-in .modem-in)))
+      _)
+      (omega (arith, read-fits ch read (shownAt ch read) ok))
+  act-in (touch.Arrival byte mark) v =
+      act-with-in (touch.Arrival byte mark) _ _ v (with-flags-in _ (lined _ (quiet-arrived (ch .state .line) _)) _)
+      (omega (arith, fate-in (heardOf (ch .settings) byte mark .gate) (received ch (touch.Arrival byte mark) .kept)))
+  act-in touch.Slot v =
+      act-with-in touch.Slot _ _ v
+      (with-shift-in (ch .state) (ok .lines-in) _ (shift-loaded _ _ (oldest-byte-below 256 (ch .tx) (omega arith) (ok .sent-bytes-in))))
+      (slot-in (ch .state .shift) (ch .settings) (ok .lines-in .shift-in))
+  act-in (touch.Pins value) v =
+      act-with-in (touch.Pins value) _ 0 v
+      (with-flags-in _ (with-modem-in (ch .state) (ok .lines-in) _ (modem-changed (ch .state .modem) value v (ok .lines-in .modem-in))) _) (omega arith)
+  act-in touch.Quiet v =
+      act-with-in touch.Quiet _ 0 v (lined _ (quiet-quieter (ch .state .line) (ok .lines-in .quiet-in))) (omega arith)
+  act-in touch.RtsLook v = act-with-in touch.RtsLook (ch .state) _ v (ok .lines-in) (omega (arith, flag-in (rtsAsserted ch)))
+
+  pub step-in : (t : Touch) → TouchIn t → StepIn (stepAt ch t)
+  unfolding stepAt
+  step-in t v = settled-in ch (actOf ch t) ok (act-in t v)
 
 pub well-formed-touched : (ch : Channel) (t : Touch) → TouchIn t → WellFormed ch → WellFormed (touchedBy ch t)
-well-formed-touched ch t v ok =
-    record {
-      rx-in =
-          rw (touched-rx ch t)
-          (well-formed-changed (ch .rx) (receiveChange (ch .settings) t) (roomOf (ch .settings)) (ok .rx-in) (room-in (ch .settings)));
-      tx-in = rw (touched-tx ch t) (well-formed-changed (ch .tx) (sentChange ch t) transmitRoom (ok .tx-in) (omega arith));
-      marks-in =
-          rw (touched-rx ch t)
-          (marks-below-changed 8 (ch .rx) (receiveChange (ch .settings) t) (roomOf (ch .settings)) (ok .marks-in) (received-mark (ch .settings) t v));
-      quiet-in = lines .quiet-in;
-      pins-in = lines .modem-in .pins-in;
-      changes-in = lines .modem-in .changes-in;
-    }
-  where
-    lines : LinesIn (touchedBy ch t .state)
-    lines =
-        touched-lines-in ch t v
-        (record { quiet-in = ok .quiet-in; modem-in = record { pins-in = ok .pins-in; changes-in = ok .changes-in } })
+well-formed-touched ch t v ok = well-formed-stepped ch (stepAt ch t) ok (step-in ch ok t v)

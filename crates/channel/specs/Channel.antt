@@ -1,15 +1,16 @@
 -- Definitions: a channel: what may be asked of its record, and what is seen of it from outside.
-use Prim.Native.Nat.{ℕ, _<_, _≤_}
+use Prim.Native.Nat.{ℕ}
 use mathlib.Core.Bool.{Bool, not, _&&_}
 use lib.Dec.{eqb}
 use Rattle.bits.specs.Choice.{pick}
 use Rattle.queue.specs.Queue as queue
-use Rattle.queue.specs.Queue.{MarksBelow, oldestOf, anyMarkOf}
+use Rattle.queue.specs.Queue.{Below, oldestOf, anyMarkOf}
 use Rattle.registers.specs.declared.levels.Characters.{Characters}
 use Rattle.registers.specs.declared.levels.Spaces.{Spaces}
 use Rattle.registers.specs.declared.register.Register.{Register}
 use Rattle.registers.specs.declared.register.Register.the-variants as register
 use Rattle.registers.specs.Windows.{same}
+use Rattle.registers.specs.Bounds.{SettingsIn}
 use Rattle.receiver.specs.declared.line.Status.{Status}
 use Rattle.receiver.specs.Line.{lsrOf}
 use Rattle.lines.specs.Transmit.{spacesOf, allFree, isBusy}
@@ -19,15 +20,18 @@ use Rattle.interrupts.specs.declared.interrupt.Interrupt.{Interrupt}
 use Rattle.interrupts.specs.declared.interrupt.Interrupt.the-variants as interrupt
 use Rattle.interrupts.specs.Interrupts.{pendingOf, iirOf}
 use Rattle.channel.specs.declared.channel.Channel.{Channel}
+use Rattle.channel.specs.State.{LinesIn}
 
 -- what may be asked of a record: "its counts, places and stored values within their bounds"
 pub record WellFormed (ch : Channel) : Type 0 where
+  pub settings-in : SettingsIn (ch .settings)
+  pub lines-in : LinesIn (ch .state)
   pub rx-in : queue.WellFormed (ch .rx)
+  pub bytes-in : Below 256 (ch .rx .bytes)
+  pub marks-in : Below 8 (ch .rx .marks)
   pub tx-in : queue.WellFormed (ch .tx)
-  pub marks-in : MarksBelow 8 (ch .rx)
-  pub quiet-in : ch .state .line .quiet ≤ 4
-  pub pins-in : ch .state .modem .pins < 16
-  pub changes-in : ch .state .modem .changes < 16
+  pub sent-bytes-in : Below 256 (ch .tx .bytes)
+  pub sent-marks-in : Below 8 (ch .tx .marks)
 
 -- the characters received, and the free spaces of the transmit queue
 abbrev pub receivedAt : Channel → Characters

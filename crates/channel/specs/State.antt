@@ -1,10 +1,18 @@
--- Definitions: the lines of a channel with one of them anew.
+-- Definitions: the lines of a channel: their bounds, and the lines with one of them anew.
+use Prim.Native.Nat.{_<_, _≤_}
 use mathlib.Core.Bool.{Bool}
 use Rattle.receiver.specs.declared.line.Line.{Line}
 use Rattle.lines.specs.declared.transmit.Shift.{Shift}
 use Rattle.lines.specs.declared.modem.Modem.{Modem}
+use Rattle.lines.specs.Modem.{ModemIn}
 use Rattle.interrupts.specs.declared.flags.Flags.{Flags}
 use Rattle.channel.specs.declared.state.State.{State}
+
+-- the lines within their bounds: "Quiet adds 1 up to 4"
+pub record LinesIn (s : State) : Type 0 where
+  pub quiet-in : s .line .quiet ≤ 4
+  pub shift-in : s .shift .byte < 256
+  pub modem-in : ModemIn (s .modem)
 
 unfoldable pub withLine : State → Line → State
 withLine s line = record { line = line; shift = s .shift; modem = s .modem; flags = s .flags; latch = s .latch }

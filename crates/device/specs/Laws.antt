@@ -1,14 +1,13 @@
 -- Laws: what holds of every step: a reset is the act only, the record stays well formed, the other channel is left alone, and
 -- a refused event changes nothing.
-use Prim.Native.Nat.{ℕ}
+use Prim.Native.Nat.{ℕ, _<_}
 use native.Mathlib.Omega.{arith}
 use mathlib.Core.Path.{_≡_, refl, ap, _∙_}
 use mathlib.Core.Bool.{Bool, true, false, _&&_}
 use Rattle.bits.specs.Choice.{pick, pick-by, apart}
 use Rattle.bits.specs.Bits.{bitAt}
-use Rattle.queue.specs.Change.{Clear}
-use Rattle.queue.specs.Queue.{clearsAll, staysAs, movedBy, afterOf}
-use Rattle.queue.specs.Laws.{well-formed-empty, well-formed-changed, marks-below-empty, marks-below-changed}
+use Rattle.queue.specs.Queue.{emptyQueue, clearsAll, staysAs, movedBy, afterOf}
+use Rattle.queue.specs.Laws.{well-formed-empty, well-formed-after, empty-below}
 use Rattle.event.specs.declared.refusal.Refusal.{Refusal}
 use Rattle.event.specs.declared.events.Event.{Event}
 use Rattle.event.specs.declared.events.Event.the-variants as event
@@ -19,13 +18,15 @@ use Rattle.event.specs.declared.events.Touch.the-variants as touch
 use Rattle.event.specs.Events.{TouchIn, InRange, numbersOf, eventOf, judgedOf}
 use Rattle.event.specs.Laws.{made-in-range}
 use Rattle.registers.specs.declared.register.Register.the-variants as register
+use Rattle.registers.specs.declared.settings.Settings.{Settings}
 use Rattle.registers.specs.Windows.{registerAt}
 use Rattle.registers.specs.Writes.{settingOf, ifSet, withSetting, resetsDevice}
 use Rattle.registers.specs.Queues.{clears}
-use Rattle.registers.specs.Laws.{same-is}
+use Rattle.registers.specs.Bounds.{SettingsIn}
+use Rattle.registers.specs.Laws.{same-is, zero-held, byte-held}
 use Rattle.channel.specs.declared.channel.Channel.{Channel}
 use Rattle.channel.specs.Channel as channel
-use Rattle.channel.specs.State.{withLine, withFlags, withLatch}
+use Rattle.channel.specs.State.{LinesIn, withLine, withFlags, withLatch}
 use Rattle.acts.specs.Touches.{settingBy, receiveChange, sentBy, transmitChange, resetsBy}
 use Rattle.acts.specs.Acts.{actWith, writeAct, actOf}
 use Rattle.channel.specs.Settle.{settledOf, afterStep}
@@ -36,7 +37,7 @@ use Rattle.device.specs.declared.side.Side.the-variants as side
 use Rattle.device.specs.declared.device.Device.{Device}
 use Rattle.device.specs.declared.device.Stepped.{Stepped}
 use Rattle.device.specs.declared.device.Answer.the-variants as answer
-use Rattle.device.specs.Reset.{settingsReset, linesReset, resetOf, blankChannel, resetDevice, newDevice}
+use Rattle.device.specs.Reset.{resetLcr, newByte, settingsReset, linesReset, resetOf, blankSettings, blankChannel, resetDevice, newDevice}
 use Rattle.device.specs.Device.{WellFormed, channelAt, withChannel, sideNumbered, touchedAt, givenFor, namedStep, stepOf, answeredOf}
 
 -- ---- a reset through a channel is the act only: what the event touches there is what a reset makes anew
@@ -95,31 +96,82 @@ well-formed-with : (d : Device) (at : Side) (ch : Channel) → WellFormed d → 
 well-formed-with d side.A ch ok h = record { a-in = h; b-in = ok .b-in }
 well-formed-with d side.B ch ok h = record { a-in = ok .a-in; b-in = h }
 
+reset-in : (s : Settings) → SettingsIn s → SettingsIn (settingsReset s)
+unfolding settingsReset
+reset-in s ok =
+    record {
+      lcr-in = byte-held register.Lcr resetLcr (omega arith) refl refl refl;
+      ier-in = zero-held register.Ier;
+      fcr-in = zero-held register.IirFcr;
+      mcr-in = zero-held register.Mcr;
+      spr-in = ok .spr-in;
+      efr-in = zero-held register.Efr;
+      efcr-in = zero-held register.Efcr;
+      tcr-in = zero-held register.Tcr;
+      tlr-in = zero-held register.Tlr;
+      dll-in = ok .dll-in;
+      dlh-in = ok .dlh-in;
+      xon1-in = ok .xon1-in;
+      xon2-in = ok .xon2-in;
+      xoff1-in = ok .xoff1-in;
+      xoff2-in = ok .xoff2-in;
+    }
+
+blank-in : SettingsIn blankSettings
+unfolding blankSettings
+blank-in =
+    record {
+      lcr-in = zero-held register.Lcr;
+      ier-in = zero-held register.Ier;
+      fcr-in = zero-held register.IirFcr;
+      mcr-in = zero-held register.Mcr;
+      spr-in = zero-held register.Spr;
+      efr-in = zero-held register.Efr;
+      efcr-in = zero-held register.Efcr;
+      tcr-in = zero-held register.Tcr;
+      tlr-in = zero-held register.Tlr;
+      dll-in = zero-held register.Dll;
+      dlh-in = zero-held register.Dlh;
+      xon1-in = zero-held register.Xon1;
+      xon2-in = zero-held register.Xon2;
+      xoff1-in = zero-held register.Xoff1;
+      xoff2-in = zero-held register.Xoff2;
+    }
+
+lines-reset-in : (pins : ℕ) → pins < 16 → LinesIn (linesReset pins)
+unfolding linesReset
+lines-reset-in pins h =
+    record { quiet-in = omega arith; shift-in = omega arith; modem-in = record { pins-in = h; changes-in = omega arith } }
+
 well-formed-reset : (ch : Channel) → channel.WellFormed ch → channel.WellFormed (resetOf ch)
-unfolding resetOf linesReset movedBy
+unfolding resetOf clearsAll afterOf
 well-formed-reset ch ok =
     record {
-      rx-in = well-formed-changed (ch .rx) Clear 64 (ok .rx-in) (omega arith);
-      tx-in = well-formed-changed (ch .tx) Clear 64 (ok .tx-in) (omega arith);
-      marks-in = marks-below-changed 8 (ch .rx) Clear 64 (ok .marks-in) tt;
-      quiet-in = omega arith;
-      pins-in = ok .pins-in;
-      changes-in = omega arith;
+      settings-in = reset-in (ch .settings) (ok .settings-in);
+      lines-in = lines-reset-in (ch .state .modem .pins) (ok .lines-in .modem-in .pins-in);
+      rx-in = well-formed-after (ch .rx) (clearsAll (ch .rx)) (ok .rx-in) (ok .rx-in .start-in) (omega arith);
+      bytes-in = ok .bytes-in;
+      marks-in = ok .marks-in;
+      tx-in = well-formed-after (ch .tx) (clearsAll (ch .tx)) (ok .tx-in) (ok .tx-in .start-in) (omega arith);
+      sent-bytes-in = ok .sent-bytes-in;
+      sent-marks-in = ok .sent-marks-in;
     }
 
 well-formed-blank : channel.WellFormed blankChannel
-unfolding blankChannel linesReset
+unfolding blankChannel emptyQueue
 well-formed-blank =
     record {
+      settings-in = blank-in;
+      lines-in = lines-reset-in newByte (omega arith);
       rx-in = well-formed-empty;
+      bytes-in = empty-below 256 (omega arith);
+      marks-in = empty-below 8 (omega arith);
       tx-in = well-formed-empty;
-      marks-in = marks-below-empty 8 (omega arith);
-      quiet-in = omega arith;
-      pins-in = omega arith;
-      changes-in = omega arith;
+      sent-bytes-in = empty-below 256 (omega arith);
+      sent-marks-in = empty-below 8 (omega arith);
     }
 
-well-formed-reset-device : (d : Device) → WellFormed d → WellFormed (resetDevice d)
+pub well-formed-reset-device : (d : Device) → WellFormed d → WellFormed (resetDevice d)
 unfolding resetDevice
 well-formed-reset-device d ok = record { a-in = well-formed-reset (d .a) (ok .a-in); b-in = well-formed-reset (d .b) (ok .b-in) }
 

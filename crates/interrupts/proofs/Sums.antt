@@ -9,19 +9,8 @@ use Rattle.bits.specs.Bits.{bitAt, joinedAt}
 use Rattle.bits.specs.Laws.{joined-sum}
 use Rattle.registers.specs.declared.settings.Settings.{Settings}
 use Rattle.interrupts.specs.declared.interrupt.Interrupt.{Interrupt}
-use Rattle.interrupts.specs.declared.interrupt.Interrupt.the-variants as interrupt
 use Rattle.interrupts.specs.Interrupts.{codeOf, iirOf}
-
-code-in : (i : Interrupt) → codeOf i < 64
-unfolding codeOf
-code-in interrupt.LineStatus = omega arith
-code-in interrupt.Timeout = omega arith
-code-in interrupt.Receive = omega arith
-code-in interrupt.Transmit = omega arith
-code-in interrupt.Modem = omega arith
-code-in interrupt.Special = omega arith
-code-in interrupt.Flow = omega arith
-code-in interrupt.Nothing = omega arith
+use Rattle.interrupts.specs.Laws.{code-in}
 
 fifo-bits : (fifo : Bool) → pick fifo 3 0 * 64 ≡ pick fifo 0xC0 0
 fifo-bits true = refl

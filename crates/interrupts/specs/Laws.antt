@@ -1,8 +1,17 @@
--- Laws: the THR flag as it is computed, that it stands only where its condition holds, and that flags settled again stay.
+-- Laws: the THR flag as it is computed, that it stands only where its condition holds, that flags settled again stay, and the bound
+-- of IIR.
+use Prim.Native.Nat.{ℕ, _+_, _<_}
+use native.Mathlib.Omega.{arith}
 use mathlib.Core.Path.{_≡_, refl}
 use mathlib.Core.Bool.{Bool, true, false, not, _&&_, _||_}
+use Rattle.bits.specs.Choice.{pick-by}
+use Rattle.bits.specs.Bits.{bitAt}
+use Rattle.registers.specs.declared.settings.Settings.{Settings}
 use Rattle.interrupts.specs.declared.flags.Flags.{Flags}
 use Rattle.interrupts.specs.declared.flags.Moment.{Moment}
+use Rattle.interrupts.specs.declared.interrupt.Interrupt.{Interrupt}
+use Rattle.interrupts.specs.declared.interrupt.Interrupt.the-variants as interrupt
+use Rattle.interrupts.specs.Interrupts.{codeOf, iirOf}
 use Rattle.interrupts.specs.Flags.{thrSettled, flagsSettled}
 
 pub thr-in-one : (flag before after : Bool) → after && (flag || not before) ≡ thrSettled flag before after
@@ -34,3 +43,18 @@ thr-stays false false has = refl
 pub flags-stay : (f : Flags) (now : Moment) → (f .thr ≡ true → now .thr ≡ true) → flagsSettled f now now ≡ f
 unfolding flagsSettled
 flags-stay f now has = rw (rts-stays (f .rts) (now .rts), thr-stays (f .thr) (now .thr) has)
+
+pub code-in : (i : Interrupt) → codeOf i < 64
+unfolding codeOf
+code-in interrupt.LineStatus = omega arith
+code-in interrupt.Timeout = omega arith
+code-in interrupt.Receive = omega arith
+code-in interrupt.Transmit = omega arith
+code-in interrupt.Modem = omega arith
+code-in interrupt.Special = omega arith
+code-in interrupt.Flow = omega arith
+code-in interrupt.Nothing = omega arith
+
+pub iir-fits : (i : Interrupt) (s : Settings) → iirOf i s < 256
+unfolding iirOf
+iir-fits i s = pick-by (λ (n : ℕ). n + codeOf i < 256) (bitAt (s .fcr) 0) (λ _. omega (arith, code-in i)) (λ _. omega (arith, code-in i))

@@ -1,23 +1,23 @@
--- Laws: the pins and their changes stay four bits each; the latch rule applied twice is the latch rule.
-use Prim.Native.Nat.{ℕ, _<_}
+-- Laws: the pins and their changes stay four bits each; the shift register, what leaves it and MSR stay within their bounds; the
+-- latch rule applied twice is the latch rule.
+use Prim.Native.Nat.{ℕ, _<_, _≤_}
 use native.Mathlib.Omega.{arith}
 use mathlib.Core.Path.{_≡_, refl}
 use mathlib.Core.Bool.{Bool, true, false, not}
 use lib.Bits.{bitXor, or-lt, xor-lt}
 use Rattle.bits.specs.Choice.{pick, pick-by}
 use Rattle.bits.specs.Bits.{bitAt}
+use Rattle.bits.specs.Laws.{cut-fits}
 use Rattle.registers.specs.declared.levels.Characters.{Characters}
 use Rattle.registers.specs.declared.register.Register.{Register}
 use Rattle.registers.specs.declared.register.Register.the-variants as register
 use Rattle.registers.specs.declared.settings.Settings.{Settings}
 use Rattle.registers.specs.Windows.{same}
 use Rattle.lines.specs.declared.modem.Modem.{Modem}
-use Rattle.lines.specs.Modem.{pinsChanged, modemRead}
+use Rattle.lines.specs.declared.transmit.Shift.{Shift}
+use Rattle.lines.specs.Modem.{ModemIn, pinsChanged, modemRead, msrOf}
 use Rattle.lines.specs.Rts.{haltReached, resumeReached, latchAfter}
-
-pub record ModemIn (m : Modem) : Type 0 where
-  pub pins-in : m .pins < 16
-  pub changes-in : m .changes < 16
+use Rattle.lines.specs.Transmit.{shiftLoaded, slotReply}
 
 pub modem-read : (m : Modem) (read : Register) → ModemIn m → ModemIn (modemRead m read)
 unfolding modemRead
@@ -34,6 +34,19 @@ modem-changed m value v h =
       pins-in = v;
       changes-in = or-lt 4 (m .changes) (bitXor (m .pins) value) (h .changes-in) (xor-lt 4 (m .pins) value (h .pins-in) v);
     }
+
+pub msr-fits : (m : Modem) → ModemIn m → msrOf m < 256
+unfolding msrOf
+msr-fits m h = omega (arith, h .pins-in, h .changes-in)
+
+pub shift-loaded : (loaded : Bool) (oldest : ℕ) → oldest < 256 → shiftLoaded loaded oldest .byte < 256
+unfolding shiftLoaded
+shift-loaded loaded oldest fits = pick-by (λ (n : ℕ). n < 256) loaded (λ _. fits) (λ _. omega arith)
+
+pub slot-in : (shift : Shift) (s : Settings) → shift .byte < 256 → slotReply shift s ≤ 256
+unfolding slotReply
+slot-in shift s fits =
+    pick-by (λ (n : ℕ). n ≤ 256) (shift .full) (λ _. omega (arith, cut-fits (shift .byte) (s .lcr) fits)) (λ _. omega arith)
 
 -- ---- a latch that the rule has made is what the rule makes of it
 picked-once : (clear halt resume latch : Bool)

@@ -1,5 +1,5 @@
 -- Definitions: "Pins", of "Interrupts". Pin values: CD 8, RI 4, DSR 2, CTS 1.
-use Prim.Native.Nat.{ℕ, _+_, _*_}
+use Prim.Native.Nat.{ℕ, _+_, _*_, _<_}
 use mathlib.Core.Bool.{Bool, not, _&&_}
 use lib.Bits.{bitOr, bitXor}
 use Rattle.bits.specs.Choice.{pick}
@@ -9,6 +9,11 @@ use Rattle.registers.specs.declared.register.Register.the-variants as register
 use Rattle.registers.specs.declared.settings.Settings.{Settings}
 use Rattle.registers.specs.Windows.{same}
 use Rattle.lines.specs.declared.modem.Modem.{Modem}
+
+-- the pins and their changes within their bounds, four bits each
+pub record ModemIn (m : Modem) : Type 0 where
+  pub pins-in : m .pins < 16
+  pub changes-in : m .changes < 16
 
 unfoldable pub ctsAsserted : Modem → Bool
 ctsAsserted m = bitAt (m .pins) 0

@@ -1,4 +1,5 @@
--- Laws: what each change does to the list that a queue stands for, once over the room, and that a queue stays well formed.
+-- Laws: what each change does to the list that a queue stands for, once over the room, and that a queue stays well formed and
+-- its places within their bounds.
 use Prim.Native.Nat.{ℕ, zero, suc, _+_, _-_, _%_, _<_, _≤_}
 use native.Mathlib.Nat.{add-zero}
 use native.Mathlib.Numerals.{add-one}
@@ -16,7 +17,7 @@ use Rattle.queue.specs.declared.Character.{Character}
 use Rattle.queue.specs.declared.Queue.{Queue}
 use Rattle.queue.specs.declared.Moved.{Moved}
 use Rattle.queue.specs.Change.{Change, Add, Take, Clear, Stay}
-use Rattle.queue.specs.Queue.{WellFormed, MarksBelow, Fits, none, emptyQueue, oldestOf, markedFrom, anyMarkOf, addsTo, takesFrom, clearsAll, staysAs, movedBy, putInto, afterOf, changed}
+use Rattle.queue.specs.Queue.{WellFormed, Below, CharacterIn, Fits, none, emptyQueue, oldestOf, markedFrom, anyMarkOf, addsTo, takesFrom, clearsAll, staysAs, movedBy, putInto, afterOf, changed}
 use Rattle.queue.specs.List.{charAt, itemsFrom, items, someMark, listAfter}
 
 -- ---- the length is the count
@@ -139,7 +140,7 @@ room-for-one : (count room : ℕ) → count ≤ 64 → room ≤ 64 → count + o
 unfolding oneIf
 room-for-one count room h r = pick-by (λ (one : ℕ). count + one ≤ 64) (ltb count room) (λ fewer. omega (arith, ltb-true count room fewer)) (λ _. omega arith)
 
-well-formed-after : (q : Queue) (m : Moved) → WellFormed q → m .start < 64 → m .count ≤ 64 → WellFormed (afterOf q m)
+pub well-formed-after : (q : Queue) (m : Moved) → WellFormed q → m .start < 64 → m .count ≤ 64 → WellFormed (afterOf q m)
 unfolding afterOf
 well-formed-after q m ok s n =
     record { start-in = s; count-in = n; bytes-64 = simp length-put (ok .bytes-64); marks-64 = simp length-put (ok .marks-64) }
@@ -151,43 +152,36 @@ well-formed-changed q Take room ok r = well-formed-after q (takesFrom q) ok (ome
 well-formed-changed q Clear room ok r = well-formed-after q (clearsAll q) ok (ok .start-in) (omega arith)
 well-formed-changed q Stay room ok r = well-formed-after q (staysAs q) ok (ok .start-in) (ok .count-in)
 
--- ---- marks stay below a bound that those of new characters are below
+-- ---- places stay below a bound that a new number is below
 zeros : (n place : ℕ) → _≡_ {A = ℕ} (getD (replicate n 0) place 0) 0
 zeros zero place = refl
 zeros (suc n) zero = refl
 zeros (suc n) (suc place) = zeros n place
 
-set-below : (bound : ℕ) (marks : List ℕ) (at mark : ℕ) → mark < bound → ((place : ℕ) → getD marks place 0 < bound)
-    → (place : ℕ) → getD (set marks at mark) place 0 < bound
-set-below bound [] at mark m h place = h place
-set-below bound (x ∷ marks) zero mark m h zero = m
-set-below bound (x ∷ marks) zero mark m h (suc place) = h (suc place)
-set-below bound (x ∷ marks) (suc at) mark m h zero = h zero
-set-below bound (x ∷ marks) (suc at) mark m h (suc place) = set-below bound marks at mark m (λ k. h (suc k)) place
+set-below : (bound : ℕ) (places : List ℕ) (at x : ℕ) → x < bound → ((place : ℕ) → getD places place 0 < bound)
+    → (place : ℕ) → getD (set places at x) place 0 < bound
+set-below bound [] at x x-in h place = h place
+set-below bound (y ∷ places) zero x x-in h zero = x-in
+set-below bound (y ∷ places) zero x x-in h (suc place) = h (suc place)
+set-below bound (y ∷ places) (suc at) x x-in h zero = h zero
+set-below bound (y ∷ places) (suc at) x x-in h (suc place) = set-below bound places at x x-in (λ k. h (suc k)) place
 
 module _ (bound : ℕ) where
-  pub marks-below-empty : 0 < bound → MarksBelow bound emptyQueue
-  unfolding MarksBelow emptyQueue
-  marks-below-empty some place = rw (zeros 64 place) some
+  pub empty-below : 0 < bound → Below bound (replicate 64 0)
+  unfolding Below
+  empty-below some place = rw (zeros 64 place) some
 
-  -- the mark of a character that is offered
-  abbrev pub MarkBelow : Change → Type 0
-  MarkBelow (Add c) = c .mark < bound
-  MarkBelow Take = Unit {0}
-  MarkBelow Clear = Unit {0}
-  MarkBelow Stay = Unit {0}
+  pub put-below : (puts : Bool) (places : List ℕ) (at x : ℕ) → x < bound → Below bound places → Below bound (putInto puts places at x)
+  unfolding Below
+  put-below true places at x x-in h = set-below bound places at x x-in h
+  put-below false places at x x-in h = h
 
-  pub marks-below-changed : (q : Queue) (a : Change) (room : ℕ) → MarksBelow bound q → MarkBelow a → MarksBelow bound (changed q a room)
-  unfolding MarksBelow movedBy addsTo takesFrom clearsAll staysAs afterOf
-  marks-below-changed q (Add c) room h m =
-      pick-by (λ (marks : List ℕ). (place : ℕ) → getD marks place 0 < bound) (ltb (q .count) room)
-      (λ _. set-below bound (q .marks) ((q .start + q .count) % 64) (c .mark) m h) (λ _. h)
-  marks-below-changed q Take room h m = h
-  marks-below-changed q Clear room h m = h
-  marks-below-changed q Stay room h m = h
+  pub oldest-byte-below : (q : Queue) → 0 < bound → Below bound (q .bytes) → oldestOf q .byte < bound
+  unfolding Below oldestOf
+  oldest-byte-below q some h = pick-by (λ (c : Character). c .byte < bound) (eqb (q .count) 0) (λ _. some) (λ _. h (q .start))
 
-  pub oldest-mark-below : (q : Queue) → 0 < bound → MarksBelow bound q → oldestOf q .mark < bound
-  unfolding MarksBelow oldestOf
+  pub oldest-mark-below : (q : Queue) → 0 < bound → Below bound (q .marks) → oldestOf q .mark < bound
+  unfolding Below oldestOf
   oldest-mark-below q some h = pick-by (λ (c : Character). c .mark < bound) (eqb (q .count) 0) (λ _. some) (λ _. h (q .start))
 
 -- ---- what becomes of a queue
@@ -198,6 +192,37 @@ fits-moved q (Add c) room = omega arith
 fits-moved q Take room = omega arith
 fits-moved q Clear room = omega arith
 fits-moved q Stay room = omega arith
+
+-- what becomes of a queue within the bounds of one
+pub record MovedIn (m : Moved) : Type 0 where
+  pub start-in : m .start < 64
+  pub count-in : m .count ≤ 64
+  pub place-in : Fits m
+  pub character-in : CharacterIn (m .character)
+
+-- a character that is offered is within its bounds
+abbrev pub ChangeIn : Change → Type 0
+ChangeIn (Add c) = CharacterIn c
+ChangeIn Take = Unit {0}
+ChangeIn Clear = Unit {0}
+ChangeIn Stay = Unit {0}
+
+character-moved : (q : Queue) (a : Change) (room : ℕ) → ChangeIn a → CharacterIn (movedBy q a room .character)
+unfolding movedBy addsTo takesFrom clearsAll staysAs
+character-moved q (Add c) room h = h
+character-moved q Take room h = record { byte-in = omega arith; mark-in = omega arith }
+character-moved q Clear room h = record { byte-in = omega arith; mark-in = omega arith }
+character-moved q Stay room h = record { byte-in = omega arith; mark-in = omega arith }
+
+pub moved-in : (q : Queue) (a : Change) (room : ℕ) → WellFormed q → room ≤ 64 → ChangeIn a → MovedIn (movedBy q a room)
+unfolding afterOf
+moved-in q a room ok r h =
+    record {
+      start-in = well-formed-changed q a room ok r .start-in;
+      count-in = well-formed-changed q a room ok r .count-in;
+      place-in = fits-moved q a room;
+      character-in = character-moved q a room h;
+    }
 
 -- by one change or another, as a condition has it
 pub moved-pick : (q : Queue) (goes : Bool) (a b : Change) (room : ℕ) → movedBy q (pick goes a b) room ≡ pick goes (movedBy q a room) (movedBy q b room)

@@ -19,9 +19,14 @@ pub record WellFormed (q : Queue) : Type 0 where
   pub bytes-64 : length (q .bytes) ≡ 64
   pub marks-64 : length (q .marks) ≡ 64
 
--- every mark is below a bound
-unfoldable pub MarksBelow : ℕ → Queue → Type 0
-MarksBelow bound q = (place : ℕ) → getD (q .marks) place 0 < bound
+-- every place holds a number below a bound
+unfoldable pub Below : ℕ → List ℕ → Type 0
+Below bound places = (place : ℕ) → getD places place 0 < bound
+
+-- a character within its bounds: a byte, and a mark that is a sum of 1, 2 and 4
+pub record CharacterIn (c : Character) : Type 0 where
+  pub byte-in : c .byte < 256
+  pub mark-in : c .mark < 8
 
 -- a place that is written is one of the 64
 abbrev pub Fits : Moved → Type 0

@@ -1,4 +1,4 @@
--- What the contracts of `receiver` cite, of document 01's "Receive queue", and the bound that an event keeps.
+-- What the contracts of `receiver` cite, of document 01's "Receive queue", and the bounds that an event keeps.
 pub mod Arrivals
 pub mod Line
 pub mod Laws

@@ -1,6 +1,4 @@
-use native.Mathlib.Omega.{arith}
-use Rattle.queue.specs.Laws.{oldest-mark-below}
-use Rattle.channel.specs.Channel.{statusOf}
+use Rattle.channel.specs.Laws.{mark-shown-in}
 use borrow.Author.Needs.{needs}
 use Rattle.channel.specs.Channel.{readOf}
 use Rattle.channel.proofs.channel.Channel.gives.Statement.{statement}
@@ -34,8 +32,7 @@ status-requires : tie.Need-status-requires
 status-requires c κs = search needs
 
 lsr-requires : tie.Need-lsr-requires
-unfolding statusOf
-lsr-requires c κs = rw (c .status .ensures) (oldest-mark-below 8 _ (omega arith) (c .before .before .before .pre .marks-in))
+lsr-requires c κs = rw (c .status .ensures) (mark-shown-in _ (c .before .before .before .pre))
 
 enum-told-7 : tie.Need-enum-told-7
 enum-told-7 c = search needs

@@ -1,0 +1,136 @@
+-- Laws: what is within its bounds stays so: the lines with one of them anew, an act with what settles after it, and the
+-- channel after a step; and that a read gives a byte.
+use Prim.Native.Nat.{ℕ, _<_, _≤_}
+use native.Mathlib.Omega.{arith}
+use mathlib.Core.Bool.{Bool}
+use Rattle.queue.specs.declared.Queue.{Queue}
+use Rattle.queue.specs.declared.Moved.{Moved}
+use Rattle.queue.specs.Queue as queue
+use Rattle.queue.specs.Queue.{Below, afterOf}
+use Rattle.queue.specs.Laws.{MovedIn, well-formed-after, put-below, oldest-byte-below, oldest-mark-below}
+use Rattle.registers.specs.declared.register.Register.{Register}
+use Rattle.registers.specs.declared.register.Register.the-variants as register
+use Rattle.registers.specs.Bounds.{SettingIn, SettingsIn}
+use Rattle.registers.specs.Laws.{settings-in}
+use Rattle.receiver.specs.declared.line.Line.{Line}
+use Rattle.receiver.specs.Laws.{lsr-fits}
+use Rattle.lines.specs.declared.transmit.Shift.{Shift}
+use Rattle.lines.specs.declared.modem.Modem.{Modem}
+use Rattle.lines.specs.Transmit.{spacesOf}
+use Rattle.lines.specs.Modem.{ModemIn}
+use Rattle.lines.specs.Laws.{msr-fits}
+use Rattle.interrupts.specs.declared.flags.Flags.{Flags}
+use Rattle.interrupts.specs.declared.interrupt.Interrupt.{Interrupt}
+use Rattle.interrupts.specs.Laws.{iir-fits}
+use Rattle.channel.specs.declared.settle.Act.{Act}
+use Rattle.channel.specs.declared.settle.Step.{Step}
+use Rattle.channel.specs.declared.channel.Channel.{Channel}
+use Rattle.channel.specs.declared.state.State.{State}
+use Rattle.channel.specs.State.{LinesIn, withLine, withShift, withModem, withFlags, withLatch}
+use Rattle.channel.specs.Channel.{WellFormed, statusOf, readOf}
+use Rattle.channel.specs.Settle.{settledOf, afterStep}
+
+-- ---- the lines with one of them anew
+module _ (s : State) (ok : LinesIn s) where
+  pub with-line-in : (line : Line) → line .quiet ≤ 4 → LinesIn (withLine s line)
+  unfolding withLine
+  with-line-in line h = record { quiet-in = h; shift-in = ok .shift-in; modem-in = ok .modem-in }
+
+  pub with-shift-in : (shift : Shift) → shift .byte < 256 → LinesIn (withShift s shift)
+  unfolding withShift
+  with-shift-in shift h = record { quiet-in = ok .quiet-in; shift-in = h; modem-in = ok .modem-in }
+
+  pub with-modem-in : (modem : Modem) → ModemIn modem → LinesIn (withModem s modem)
+  unfolding withModem
+  with-modem-in modem h = record { quiet-in = ok .quiet-in; shift-in = ok .shift-in; modem-in = h }
+
+  pub with-flags-in : (flags : Flags) → LinesIn (withFlags s flags)
+  unfolding withFlags
+  with-flags-in flags = record { quiet-in = ok .quiet-in; shift-in = ok .shift-in; modem-in = ok .modem-in }
+
+  pub with-latch-in : (latch : Bool) → LinesIn (withLatch s latch)
+  unfolding withLatch
+  with-latch-in latch = record { quiet-in = ok .quiet-in; shift-in = ok .shift-in; modem-in = ok .modem-in }
+
+-- ---- an act and a step within their bounds: a reply is a byte or 256
+pub record ActIn (act : Act) : Type 0 where
+  pub setting-in : SettingIn (act .setting)
+  pub lines-in : LinesIn (act .state)
+  pub rx-in : MovedIn (act .rx)
+  pub tx-in : MovedIn (act .tx)
+  pub reply-in : act .reply ≤ 256
+
+pub record StepIn (step : Step) : Type 0 where
+  pub settings-in : SettingsIn (step .settings)
+  pub lines-in : LinesIn (step .state)
+  pub rx-in : MovedIn (step .rx)
+  pub tx-in : MovedIn (step .tx)
+  pub reply-in : step .reply ≤ 256
+
+pub settled-in : (ch : Channel) (act : Act) → WellFormed ch → ActIn act → StepIn (settledOf ch act)
+unfolding settledOf
+settled-in ch act ok h =
+    record {
+      settings-in = settings-in (ch .settings) (act .setting) (ok .settings-in) (h .setting-in);
+      lines-in = with-latch-in _ (with-flags-in (act .state) (h .lines-in) _) _;
+      rx-in = h .rx-in;
+      tx-in = h .tx-in;
+      reply-in = h .reply-in;
+    }
+
+-- ---- the channel after a step
+module _ (q : Queue) (m : Moved) (moved : MovedIn m) where
+  numbers-after : queue.WellFormed q → queue.WellFormed (afterOf q m)
+  numbers-after ok = well-formed-after q m ok (moved .start-in) (moved .count-in)
+
+  bytes-after : Below 256 (q .bytes) → Below 256 (afterOf q m .bytes)
+  unfolding afterOf
+  bytes-after h = put-below 256 (m .puts) (q .bytes) (m .place) (m .character .byte) (moved .character-in .byte-in) h
+
+  marks-after : Below 8 (q .marks) → Below 8 (afterOf q m .marks)
+  unfolding afterOf
+  marks-after h = put-below 8 (m .puts) (q .marks) (m .place) (m .character .mark) (moved .character-in .mark-in) h
+
+pub well-formed-stepped : (ch : Channel) (step : Step) → WellFormed ch → StepIn step → WellFormed (afterStep ch step)
+unfolding afterStep
+well-formed-stepped ch step ok h =
+    record {
+      settings-in = h .settings-in;
+      lines-in = h .lines-in;
+      rx-in = numbers-after (ch .rx) (step .rx) (h .rx-in) (ok .rx-in);
+      bytes-in = bytes-after (ch .rx) (step .rx) (h .rx-in) (ok .bytes-in);
+      marks-in = marks-after (ch .rx) (step .rx) (h .rx-in) (ok .marks-in);
+      tx-in = numbers-after (ch .tx) (step .tx) (h .tx-in) (ok .tx-in);
+      sent-bytes-in = bytes-after (ch .tx) (step .tx) (h .tx-in) (ok .sent-bytes-in);
+      sent-marks-in = marks-after (ch .tx) (step .tx) (h .tx-in) (ok .sent-marks-in);
+    }
+
+-- ---- a read gives a byte
+pub mark-shown-in : (ch : Channel) → WellFormed ch → statusOf ch .mark < 8
+unfolding statusOf
+mark-shown-in ch ok = oldest-mark-below 8 (ch .rx) (omega arith) (ok .marks-in)
+
+pub read-fits : (ch : Channel) (r : Register) (shown : Interrupt) → WellFormed ch → readOf ch r shown < 256
+unfolding readOf spacesOf
+read-fits ch register.RhrThr shown ok = oldest-byte-below 256 (ch .rx) (omega arith) (ok .bytes-in)
+read-fits ch register.Ier shown ok = ok .settings-in .ier-in .byte-in
+read-fits ch register.IirFcr shown ok = iir-fits shown (ch .settings)
+read-fits ch register.Lcr shown ok = ok .settings-in .lcr-in .byte-in
+read-fits ch register.Mcr shown ok = ok .settings-in .mcr-in .byte-in
+read-fits ch register.Lsr shown ok = lsr-fits (statusOf ch) (mark-shown-in ch ok)
+read-fits ch register.Msr shown ok = msr-fits (ch .state .modem) (ok .lines-in .modem-in)
+read-fits ch register.Spr shown ok = ok .settings-in .spr-in .byte-in
+read-fits ch register.Txlvl shown ok = omega arith
+read-fits ch register.Rxlvl shown ok = omega (arith, ok .rx-in .count-in)
+read-fits ch register.IoControl shown ok = omega arith
+read-fits ch register.Efcr shown ok = ok .settings-in .efcr-in .byte-in
+read-fits ch register.Tcr shown ok = ok .settings-in .tcr-in .byte-in
+read-fits ch register.Tlr shown ok = ok .settings-in .tlr-in .byte-in
+read-fits ch register.Dll shown ok = ok .settings-in .dll-in .byte-in
+read-fits ch register.Dlh shown ok = ok .settings-in .dlh-in .byte-in
+read-fits ch register.Efr shown ok = ok .settings-in .efr-in .byte-in
+read-fits ch register.Xon1 shown ok = ok .settings-in .xon1-in .byte-in
+read-fits ch register.Xon2 shown ok = ok .settings-in .xon2-in .byte-in
+read-fits ch register.Xoff1 shown ok = ok .settings-in .xoff1-in .byte-in
+read-fits ch register.Xoff2 shown ok = ok .settings-in .xoff2-in .byte-in
+read-fits ch register.Closed shown ok = omega arith
