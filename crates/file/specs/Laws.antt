@@ -9,8 +9,9 @@ use mathlib.Core.List.{List, [], _∷_, _++_, append-assoc}
 use lib.ListN.{length, getD, drop, length-drop, length-append}
 use lib.Seq.{getD-drop, drop-cons, drop-drop, drop-append-seam}
 use lib.Dec.{ltb, leb}
-use borrow.Author.Tests.{lt-ltb, le-ltb, lt-leb, ne-eqb, leb-false, eqb-false, ltb-true, ltb-false}
+use borrow.Author.Tests.{lt-ltb, le-ltb, le-leb, lt-leb, ne-eqb, leb-true, leb-false, eqb-false, ltb-true, ltb-false}
 use Rattle.bits.specs.Choice.{pick, pick-by}
+use Rattle.event.specs.declared.refusal.Refusal.the-variants as refusal
 use Rattle.event.specs.declared.events.Touch.{Touch}
 use Rattle.event.specs.declared.events.Touch.the-variants as touch
 use Rattle.event.specs.declared.events.Event.{Event}
@@ -27,6 +28,7 @@ use Rattle.file.specs.declared.reading.Reading.the-variants as reading
 use Rattle.file.specs.Numbers.{groups, secondBroken, secondAt, numberAt, operandAt}
 use Rattle.file.specs.Reading.{andThen, placed, operandsAt, readAt}
 use Rattle.file.specs.Writing.{operandBytes, numberBytes, bytesOf}
+use Rattle.file.specs.Whole.{madeOf, numbersAt}
 
 -- ---- a number as it is written
 pub one-group : (n : ℕ) → n < 128 → groups n ≡ n ∷ []
@@ -120,7 +122,7 @@ module _ (s : List ℕ) (at : ℕ) {byte : ℕ} {rest : List ℕ} (stands : drop
   byte-past : drop (at + 1) s ≡ rest
   byte-past = sym (drop-drop 1 at s) ∙ ap (λ (l : List ℕ). drop 1 l) stands
 
-list-past : (s : List ℕ) (at : ℕ) (l rest : List ℕ) → drop at s ≡ l ++ rest → drop (at + length l) s ≡ rest
+pub list-past : (s : List ℕ) (at : ℕ) (l rest : List ℕ) → drop at s ≡ l ++ rest → drop (at + length l) s ≡ rest
 list-past s at l rest stands = sym (drop-drop (length l) at s) ∙ ap (drop (length l)) stands ∙ drop-append-seam l rest
 
 -- ---- a number that was written reads back, and so does an operand
@@ -152,10 +154,10 @@ module _ (s : List ℕ) (at n : ℕ) (rest : List ℕ) where
   operand-back true small stands = number-back (small .0) stands
   operand-back false small stands = rw (small .1, add-zero)
 
--- ---- numbers that were written come to what they make, at the place past them
+-- ---- numbers that were written stand there, and come to what they make at the place past them
 pub numbers-back : (s : List ℕ) (at : ℕ) (n : Numbers) (rest : List ℕ) → length s ≤ 65536 → Small n → drop at s ≡ numberBytes n ++ rest
-    → readAt s at ≡ placed (eventOf (n .kind) (n .x) (n .y) (n .z)) (at + length (numberBytes n))
-unfolding readAt operandsAt
+    → (numbersAt s at ≡ n) × (readAt s at ≡ placed (madeOf n) (at + length (numberBytes n)))
+unfolding numbersAt readAt operandsAt
 numbers-back s at n rest short small stands =
     let k : List ℕ = groups (n .kind) in
     let x : List ℕ = operandBytes (ltb 0 (operandCount (n .kind))) (n .x) in
@@ -166,50 +168,68 @@ numbers-back s at n rest short small stands =
     let at-y : drop (at + length k + length x) s ≡ y ++ (z ++ rest) = list-past s _ x _ at-x in
     let at-z : drop (at + length k + length x + length y) s ≡ z ++ rest = list-past s _ y _ at-y in
     let inside : at < length s = byte-inside s at (rw (one-group (n .kind) (omega arith)) at at-k) in
-    rw (le-ltb 65536 (length s) short, lt-leb (length s) at inside, number-back s at (n .kind) _ (omega arith) at-k, le-ltb 8 (n .kind) (small .0))
-    (rw (operand-back s _ (n .x) _ _ (small .1) at-x, operand-back s _ (n .y) _ _ (small .2) at-y, operand-back s _ (n .z) _ _ (small .3) at-z)
-    (ap (placed (eventOf (n .kind) (n .x) (n .y) (n .z))) (simp length-append (omega arith))))
+    rw (number-back s at (n .kind) _ (omega arith) at-k, operand-back s _ (n .x) _ _ (small .1) at-x)
+    (rw (operand-back s _ (n .y) _ _ (small .2) at-y, operand-back s _ (n .z) _ _ (small .3) at-z)
+    (rw (le-ltb 65536 (length s) short, lt-leb (length s) at inside, le-ltb 8 (n .kind) (small .0))
+    (refl, ap (placed (madeOf n)) (simp length-append (omega arith)))))
 
 -- ---- the bytes of an event are those of the numbers that make it: an operand that the kind lacks is not written
 operand-looked-at : (wanted : Bool) (n : ℕ) → operandBytes wanted (pick wanted n 0) ≡ operandBytes wanted n
 operand-looked-at true n = refl
 operand-looked-at false n = refl
 
-bytes-of-made : (n : Numbers) (e : Event) → numbersOf e ≡ lookedAt n → bytesOf e ≡ numberBytes n
+pub bytes-of-made : (n : Numbers) (e : Event) → madeOf n ≡ made.Event e → bytesOf e ≡ numberBytes n
 unfolding bytesOf
-bytes-of-made n e own = simp (own, operand-looked-at)
+bytes-of-made n e come =
+    let own : MadeOf n (made.Event e) = rw come at (made-of (n .kind) (n .x) (n .y) (n .z)) in
+    simp (own .1, operand-looked-at)
 
--- ---- what was read: an event in range that stands there as it is written; a refusal of 4 to 8 for an event passed over; one of 1, 2, 3 or 9 that ends the run
+-- ---- what was read is what the numbers come to that stand there, as they are written: an event in range, or a refusal of 4 to 8 for one
+-- passed over; a refusal that ends the run is 1, 2, 3 or 9, and at the end nothing is left
+abbrev pub Stands : List ℕ → ℕ → Made → ℕ → Type 0
+Stands s at m next = (madeOf (numbersAt s at) ≡ m) × (Bytes s → drop at s ≡ numberBytes (numbersAt s at) ++ drop next s)
+
 abbrev pub ReadingFrom : List ℕ → ℕ → Reading → Type 0
-ReadingFrom s at (reading.Event e next) = (at < next) × (next ≤ length s) × InRange e × (Bytes s → drop at s ≡ bytesOf e ++ drop next s)
-ReadingFrom s at (reading.Refused r next) = (at < next) × (next ≤ length s) × (4 ≤ refusalNumber r) × (refusalNumber r ≤ 8)
+ReadingFrom s at (reading.Event e next) = (at < next) × (next ≤ length s) × InRange e × Stands s at (made.Event e) next
+ReadingFrom s at (reading.Refused r next) = (at < next) × (next ≤ length s) × (4 ≤ refusalNumber r) × (refusalNumber r ≤ 8) × Stands s at (made.Refused r) next
 ReadingFrom s at (reading.Ended r) = 3 < refusalNumber r → refusalNumber r ≡ 9
-ReadingFrom s at reading.End = Unit {0}
+ReadingFrom s at reading.End = length s ≤ at
 
 module _ (s : List ℕ) (at : ℕ) where
-  read-on : (wanted : Bool) (p : ℕ) (m : Number) (f : ℕ → ℕ → Reading) → ReadFrom s wanted p m
-      → ((n next : ℕ) → ReadFrom s wanted p (number.Value n next) → ReadingFrom s at (f n next)) → ReadingFrom s at (andThen m f)
-  read-on wanted p (number.Value n next) f from then = then n next from
-  read-on wanted p (number.Broken r) f from then = omega arith
+  read-on : (wanted : Bool) (p : ℕ) (m : Number) (f : ℕ → ℕ → Reading) → operandAt s wanted p ≡ m → ReadFrom s wanted p m
+      → ((n next : ℕ) → operandAt s wanted p ≡ number.Value n next → ReadFrom s wanted p (number.Value n next) → ReadingFrom s at (f n next))
+      → ReadingFrom s at (andThen m f)
+  read-on wanted p (number.Value n next) f is from then = then n next is from
+  read-on wanted p (number.Broken r) f is from then = omega arith
 
-  placed-from : (n : Numbers) (next : ℕ) (m : Made) → MadeOf n m → n .kind ≤ 8 → at < next → next ≤ length s
-      → (Bytes s → drop at s ≡ numberBytes n ++ drop next s) → ReadingFrom s at (placed m next)
-  placed-from n next (made.Event e) made known past inside stands = (past, inside, made .0, λ bytes. rw (bytes-of-made n e (made .1)) (stands bytes))
-  placed-from n next (made.Refused r) made known past inside stands = (past, inside, made .0 known, made .1)
+  placed-from : (n : Numbers) (next : ℕ) (m : Made) → MadeOf n m → n .kind ≤ 8 → at < next → next ≤ length s → Stands s at m next
+      → ReadingFrom s at (placed m next)
+  placed-from n next (made.Event e) made known past inside stands = (past, inside, made .0, stands)
+  placed-from n next (made.Refused r) made known past inside stands = (past, inside, made .0 known, made .1, stands)
 
-  operands-from : (kind p : ℕ) → kind ≤ 8 → ReadFrom s true at (number.Value kind p) → ReadingFrom s at (operandsAt s kind p)
-  unfolding operandsAt
-  operands-from kind p known k =
-      read-on (ltb 0 (operandCount kind)) p (operandAt s (ltb 0 (operandCount kind)) p) _ (operand-from s p _ (k .1)) (λ x q kx.
-      read-on (ltb 1 (operandCount kind)) q (operandAt s (ltb 1 (operandCount kind)) q) _ (operand-from s q _ (kx .1)) (λ y r ky.
-      read-on (ltb 2 (operandCount kind)) r (operandAt s (ltb 2 (operandCount kind)) r) _ (operand-from s r _ (ky .1)) (λ z next kz.
-      placed-from _ next (eventOf kind x y z) (made-of kind x y z) known (omega arith) (kz .1) (λ bytes.
-      rw (k .2 bytes, kx .2 bytes, ky .2 bytes, kz .2 bytes) (simp append-assoc)))))
+  operands-from : (kind p : ℕ) → kind ≤ 8 → numberAt s at ≡ number.Value kind p → ReadFrom s true at (number.Value kind p)
+      → ReadingFrom s at (operandsAt s kind p)
+  unfolding operandsAt numbersAt
+  operands-from kind p known k-is k =
+      read-on (ltb 0 (operandCount kind)) p (operandAt s (ltb 0 (operandCount kind)) p) _ refl (operand-from s p _ (k .1)) (λ x q x-is kx.
+      read-on (ltb 1 (operandCount kind)) q (operandAt s (ltb 1 (operandCount kind)) q) _ refl (operand-from s q _ (kx .1)) (λ y r y-is ky.
+      read-on (ltb 2 (operandCount kind)) r (operandAt s (ltb 2 (operandCount kind)) r) _ refl (operand-from s r _ (ky .1)) (λ z next z-is kz.
+      placed-from _ next (eventOf kind x y z) (made-of kind x y z) known (omega arith) (kz .1)
+      (rw (k-is, x-is, y-is, z-is) (refl, λ bytes. rw (k .2 bytes, kx .2 bytes, ky .2 bytes, kz .2 bytes) (simp append-assoc))))))
 
   pub reading-from : ReadingFrom s at (readAt s at)
-  unfolding readAt
+  unfolding readAt operandAt
   reading-from =
       pick-by (ReadingFrom s at) (ltb 65536 (length s)) (λ _. λ _. refl) (λ _.
-      pick-by (ReadingFrom s at) (leb (length s) at) (λ _. tt) (λ _.
-      read-on true at (numberAt s at) _ (number-from s at) (λ kind p k.
-      pick-by (ReadingFrom s at) (ltb 8 kind) (λ _. omega arith) (λ known. operands-from kind p (ltb-false 8 kind known) k))))
+      pick-by (ReadingFrom s at) (leb (length s) at) (λ past. leb-true (length s) at past) (λ _.
+      read-on true at (numberAt s at) _ refl (number-from s at) (λ kind p is k.
+      pick-by (ReadingFrom s at) (ltb 8 kind) (λ _. omega arith) (λ known. operands-from kind p (ltb-false 8 kind known) is k))))
+
+-- an input above 65,536 bytes is refused at any place, and from its end on any other is at its end
+pub long-refused : (s : List ℕ) (at : ℕ) → 65536 < length s → readAt s at ≡ reading.Ended refusal.Long
+unfolding readAt
+long-refused s at long = rw (lt-ltb 65536 (length s) long)
+
+pub past-the-end : (s : List ℕ) (at : ℕ) → length s ≤ 65536 → length s ≤ at → readAt s at ≡ reading.End
+unfolding readAt
+past-the-end s at short past = rw (le-ltb 65536 (length s) short, le-leb (length s) at past)

@@ -2,5 +2,7 @@
 pub mod Numbers
 pub mod Reading
 pub mod Writing
+pub mod Whole
 pub mod Laws
 pub mod Theorems
+pub mod Files

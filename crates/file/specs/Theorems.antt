@@ -16,7 +16,8 @@ use Rattle.file.specs.declared.reading.Reading.the-variants as reading
 use Rattle.file.specs.declared.writing.Written.{Written}
 use Rattle.file.specs.Reading.{readAt}
 use Rattle.file.specs.Writing.{bytesOf, padded, wholeOf, writtenOf}
-use Rattle.file.specs.Laws.{bytes-at-most-five, Bytes, numbers-back, ReadingFrom, reading-from}
+use Rattle.file.specs.Whole.{numbersAt}
+use Rattle.file.specs.Laws.{bytes-at-most-five, Bytes, numbers-back, bytes-of-made, ReadingFrom, reading-from}
 
 -- "The writer gives an event's bytes, five at most, with their count, places past the count 0"
 abbrev pub FiveAtMost : Written → Type 0
@@ -58,7 +59,7 @@ module _ (s : List ℕ) (at : ℕ) where
       → readAt s at ≡ reading.Event e (at + length (bytesOf e))
   unfolding judgedOf bytesOf
   bytes-read-back e rest short range stands =
-      rw (in-range-judged e range) at (numbers-back s at (numbersOf e) rest short (in-range-known e range .1) stands)
+      rw (in-range-judged e range) at (numbers-back s at (numbersOf e) rest short (in-range-known e range .1) stands .1)
 
   -- and so do the bytes that the writer gives for its numbers
   pub written-reads-back : (kind x y z : ℕ) {e : Event} (rest : List ℕ) → length s ≤ 65536 → eventOf kind x y z ≡ made.Event e
@@ -73,7 +74,7 @@ module _ (s : List ℕ) (at : ℕ) where
       → (drop at s ≡ bytesOf e ++ drop next s) × (next ≡ at + length (bytesOf e))
   one-written-form {e} {next} bytes read =
       let from : ReadingFrom s at (reading.Event e next) = rw read at (reading-from s at) in
-      let stands : drop at s ≡ bytesOf e ++ drop next s = from .3 bytes in
+      let stands : drop at s ≡ bytesOf e ++ drop next s = rw (bytes-of-made (numbersAt s at) e (from .3 .0)) (from .3 .1 bytes) in
       (stands, omega (arith, simp (length-drop, length-append) at (ap length stands)))
 
   -- an event and a refused one end past their place and inside the input

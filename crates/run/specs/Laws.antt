@@ -6,7 +6,6 @@ use mathlib.Core.Path.{_≡_, refl, ap, _∙_}
 use mathlib.Core.Bool.{Bool, true, false}
 use mathlib.Core.List.{List, [], _++_, append-nil, append-assoc}
 use lib.ListN.{length}
-use borrow.Author.Tests.{lt-ltb, le-ltb, le-leb}
 use Rattle.bits.specs.Choice.{pick, pick-by}
 use Rattle.event.specs.declared.refusal.Refusal.{Refusal}
 use Rattle.event.specs.declared.refusal.Refusal.the-variants as refusal
@@ -18,7 +17,7 @@ use Rattle.event.specs.Laws.{in-range-judged}
 use Rattle.file.specs.declared.reading.Reading.{Reading}
 use Rattle.file.specs.declared.reading.Reading.the-variants as reading
 use Rattle.file.specs.Reading.{readAt}
-use Rattle.file.specs.Laws.{ReadingFrom, reading-from}
+use Rattle.file.specs.Laws.{ReadingFrom, reading-from, long-refused}
 use Rattle.file.specs.Theorems.{read-in-range}
 use Rattle.device.specs.Laws.{well-formed-new, well-formed-answered}
 use Rattle.run.specs.declared.cursor.Cursor.{Cursor}
@@ -56,15 +55,6 @@ read-judged s at {e} read = in-range-judged e (read-in-range s at read)
 pub well-formed-new-cursor : WellFormed newCursor
 unfolding newCursor
 well-formed-new-cursor = record { device-in = well-formed-new; index-in = omega arith; place-in = omega arith }
-
--- an input above 65,536 bytes is refused at any place, so that an event is read from a short one only
-pub long-refused : (s : List ℕ) (at : ℕ) → 65536 < length s → readAt s at ≡ reading.Ended refusal.Long
-unfolding readAt
-long-refused s at long = rw (lt-ltb 65536 (length s) long)
-
-pub past-the-end : (s : List ℕ) (at : ℕ) → length s ≤ 65536 → length s ≤ at → readAt s at ≡ reading.End
-unfolding readAt
-past-the-end s at short past = rw (le-ltb 65536 (length s) short, le-leb (length s) at past)
 
 module _ (s : List ℕ) (c : Cursor) (ok : WellFormed c) where
   well-formed-by : length s ≤ 65536 → (r : Reading) → ReadingFrom s (c .place) r → WellFormed (progressBy c r .cursor)
@@ -108,6 +98,10 @@ module _ (s : List ℕ) where
   unfolding progressOf
   going-progress c going =
       ap (λ (b : Bool). pick b (record { cursor = c; said = said.Nothing }) (progressBy c (readAt s (c .place)))) going
+
+  pub going-cursor : (n : ℕ) (c : Cursor) → c .over ≡ false → cursorAfter (suc n) s c ≡ cursorAfter n s (progressBy c (readAt s (c .place)) .cursor)
+  unfolding cursorAfter
+  going-cursor n c going = ap (λ (p : Progress). cursorAfter n s (p .cursor)) (going-progress c going)
 
   pub over-still : (n : ℕ) (c : Cursor) → c .over ≡ true → cursorAfter n s c ≡ c
   unfolding cursorAfter

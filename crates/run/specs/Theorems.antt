@@ -12,7 +12,7 @@ use Rattle.event.specs.declared.events.Made.the-variants as made
 use Rattle.file.specs.declared.reading.Reading.{Reading}
 use Rattle.file.specs.declared.reading.Reading.the-variants as reading
 use Rattle.file.specs.Reading.{readAt}
-use Rattle.file.specs.Laws.{ReadingFrom, reading-from}
+use Rattle.file.specs.Laws.{ReadingFrom, reading-from, long-refused, past-the-end}
 use Rattle.device.specs.declared.device.Device.{Device}
 use Rattle.device.specs.declared.device.Answer.the-variants as answer
 use Rattle.device.specs.Reset.{newDevice}
@@ -24,7 +24,7 @@ use Rattle.text.specs.Laws.{below-or-not}
 use Rattle.run.specs.Lines.{lineOf}
 use Rattle.run.specs.Run.{Indexed, runBy, runFrom, runUpTo, runOf, linesOf, textOf}
 use Rattle.run.specs.Cursor.{newCursor, endedAt, progressBy, textSaid, textIn, cursorAfter, filledBy}
-use Rattle.run.specs.Laws.{long-refused, past-the-end, going-progress, over-silent, cursor-sum, text-sum, left, over-after}
+use Rattle.run.specs.Laws.{going-progress, over-silent, cursor-sum, text-sum, left, over-after}
 
 -- ---- every run ends: as many steps as there are bytes are enough, and more change nothing
 module _ (s : List ℕ) where
