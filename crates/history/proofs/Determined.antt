@@ -25,6 +25,7 @@ use Rattle.event.proofs.events.Event.judged.Reads as event-judged
 use Rattle.event.proofs.refusal.Refusal.number.Reads as event-refusal-number
 use Rattle.file.proofs.read_at.Reads as file-read-at
 use Rattle.file.proofs.write.Reads as file-write
+use Rattle.file.proofs.put_event.Reads as file-put-event
 use Rattle.registers.proofs.levels.Characters.reaches.Reads as registers-characters-reaches
 use Rattle.registers.proofs.levels.Spaces.reaches.Reads as registers-spaces-reaches
 use Rattle.registers.proofs.settings.Settings.receive_level.Reads as registers-settings-receive-level
@@ -366,9 +367,12 @@ run-cursor-new-determined = by-equation (λ a r s h. h)
 abbrev pub DeterminedWith : {A R S T : Type 0} → (S → T) → (A → R → S → Type 0) → Type 0
 DeterminedWith {A} {R} {S} part allowed = (a : A) (r r′ : R) (s s′ : S) → allowed a r s → allowed a r′ s′ → (r ≡ r′) × (part s ≡ part s′)
 
--- at any lifetimes of the buffer and the word, or of the input and the buffer: the result, and what the buffer holds
+-- at any lifetimes of the buffer, and of the word or the input beside it: the result, and what the buffer holds
 pub text-put-line-determined : (κs : Lfts 2) → DeterminedWith (λ s. now (s .0)) (text-put-line.Post κs)
 text-put-line-determined κs a r r′ s s′ p q = (p .0 ∙ sym (q .0), p .1 ∙ sym (q .1))
+
+pub file-put-event-determined : (κs : Lfts 1) → DeterminedWith (λ s. now (s .0)) (file-put-event.Post κs)
+file-put-event-determined κs a r r′ s s′ p q = (p .0 ∙ sym (q .0), p .1 ∙ sym (q .1))
 
 pub run-cursor-fill-determined : (κs : Lfts 2) → DeterminedWith (λ s. now (s .1 .1 .0)) (run-cursor-fill.Post κs)
 run-cursor-fill-determined κs a r r′ s s′ p q =

@@ -66,7 +66,7 @@ module _ (s : List ℕ) where
       go rest reading.End = ap (λ (d : Cursor). d .device) (over-still s n (endedAt c) refl)
 
   -- as many steps as there are bytes leave the device that the whole history leaves
-  enough-steps : (n : ℕ) → length s ≤ n → cursorAfter n s newCursor .device ≡ ran (historyOf s)
+  pub enough-steps : (n : ℕ) → length s ≤ n → cursorAfter n s newCursor .device ≡ ran (historyOf s)
   unfolding newCursor
   enough-steps n few = device-after n newCursor refl ∙ rw (every-history-ends s n few)
 
