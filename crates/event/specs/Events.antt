@@ -81,9 +81,13 @@ numbersOf (event.At channel t) = numbersAt channel t
 numbersOf event.Reset = record { kind = 6; x = 0; y = 0; z = 0 }
 numbersOf event.IrqLook = record { kind = 7; x = 0; y = 0; z = 0 }
 
+-- what numbers come to
+abbrev pub madeOf : Numbers → Made
+madeOf n = eventOf (n .kind) (n .x) (n .y) (n .z)
+
 -- an event judged by its own numbers: itself, or its refusal
 unfoldable pub judgedOf : Event → Made
-judgedOf e = eventOf (numbersOf e .kind) (numbersOf e .x) (numbersOf e .y) (numbersOf e .z)
+judgedOf e = madeOf (numbersOf e)
 
 -- an event whose values are all in range
 abbrev pub TouchIn : Touch → Type 0

@@ -11,13 +11,13 @@ use Rattle.bits.specs.Choice.{pick-by}
 use Rattle.event.specs.declared.events.Event.{Event}
 use Rattle.event.specs.declared.events.Made.{Made}
 use Rattle.event.specs.declared.events.Made.the-variants as made
-use Rattle.event.specs.Events.{Numbers, numbersOf, judgedOf, InRange}
+use Rattle.event.specs.Events.{Numbers, numbersOf, madeOf, judgedOf, InRange}
 use Rattle.event.specs.Laws.{Small, in-range-known}
 use Rattle.file.specs.declared.reading.Reading.{Reading}
 use Rattle.file.specs.declared.reading.Reading.the-variants as reading
 use Rattle.file.specs.Reading.{placed, readAt}
 use Rattle.file.specs.Writing.{numberBytes}
-use Rattle.file.specs.Whole.{madeOf, numbersWritten, eventsWritten, numbersAt, numbersThen, numbersFrom, readingThen, historyFrom, endThen, endFrom, numbersIn, historyOf, endOf}
+use Rattle.file.specs.Whole.{numbersWritten, eventsWritten, standingAt, numbersThen, numbersFrom, readingThen, historyFrom, endThen, endFrom, numbersIn, historyOf, endOf}
 use Rattle.file.specs.Laws.{Bytes, numbers-back, bytes-of-made, list-past, ReadingFrom, reading-from, past-the-end}
 
 -- a list of bytes whose reading no refusal ends
@@ -32,7 +32,7 @@ module _ (s : List ℕ) where
   made-from (suc k) at = go (made-from k) (readAt s at) (reading-from s at)
     where
       go : ((at : ℕ) → historyFrom k s at ≡ map madeOf (numbersFrom k s at)) → (r : Reading) → ReadingFrom s at r
-          → readingThen (historyFrom k s) r ≡ map madeOf (numbersThen (numbersAt s at) (numbersFrom k s) r)
+          → readingThen (historyFrom k s) r ≡ map madeOf (numbersThen (standingAt s at) (numbersFrom k s) r)
       go rest (reading.Event e next) from = rw (rest next) (ap (λ (m : Made). m ∷ map madeOf (numbersFrom k s next)) (sym (from .3 .0)))
       go rest (reading.Refused r next) from = rw (rest next) (ap (λ (m : Made). m ∷ map madeOf (numbersFrom k s next)) (sym (from .4 .0)))
       go rest (reading.Ended r) from = refl
@@ -50,7 +50,7 @@ module _ (s : List ℕ) where
     where
       go : ((at : ℕ) → length s ≤ at + k → endFrom k s at ≡ [] → drop at s ≡ numbersWritten (numbersFrom k s at))
           → (r : Reading) → ReadingFrom s at r → endThen (endFrom k s) r ≡ []
-          → drop at s ≡ numbersWritten (numbersThen (numbersAt s at) (numbersFrom k s) r)
+          → drop at s ≡ numbersWritten (numbersThen (standingAt s at) (numbersFrom k s) r)
       go rest (reading.Event e next) from whole = rw (← rest next (omega (arith, from .0)) whole) (from .3 .1 bytes)
       go rest (reading.Refused r next) from whole = rw (← rest next (omega (arith, from .0)) whole) (from .4 .1 bytes)
       go rest (reading.Ended r) from whole = absurd (omega (arith, ap length whole))
@@ -134,7 +134,7 @@ module _ (s : List ℕ) (short : length s ≤ 65536) where
     where
       go : (k : ℕ) → length s ≤ at + k
           → ((k at : ℕ) → length s ≤ at + k → drop at s ≡ numbersWritten numbers → (numbersFrom k s at ≡ numbers) × (endFrom k s at ≡ []))
-          → (numbersAt s at ≡ n) × (readAt s at ≡ placed (madeOf n) (at + length (numberBytes n)))
+          → (standingAt s at ≡ n) × (readAt s at ≡ placed (madeOf n) (at + length (numberBytes n)))
           → (at < at + length (numberBytes n)) × (at + length (numberBytes n) ≤ length s)
           → (numbersFrom k s at ≡ n ∷ numbers) × (endFrom k s at ≡ [])
       go zero few rest back inside = absurd (omega (arith, inside .0, inside .1))

@@ -19,8 +19,8 @@ use Rattle.event.specs.declared.events.Event.the-variants as event
 use Rattle.event.specs.declared.events.Made.{Made}
 use Rattle.event.specs.declared.events.Made.the-variants as made
 use Rattle.event.specs.Refusals.{refusalNumber}
-use Rattle.event.specs.Events.{operandCount, eventOf, Numbers, numbersOf, InRange}
-use Rattle.event.specs.Laws.{lookedAt, MadeOf, made-of, Operand, Small}
+use Rattle.event.specs.Events.{operandCount, eventOf, Numbers, madeOf, InRange}
+use Rattle.event.specs.Laws.{MadeOf, made-of, Operand, Small}
 use Rattle.file.specs.declared.number.Number.{Number}
 use Rattle.file.specs.declared.number.Number.the-variants as number
 use Rattle.file.specs.declared.reading.Reading.{Reading}
@@ -28,7 +28,7 @@ use Rattle.file.specs.declared.reading.Reading.the-variants as reading
 use Rattle.file.specs.Numbers.{groups, secondBroken, secondAt, numberAt, operandAt}
 use Rattle.file.specs.Reading.{andThen, placed, operandsAt, readAt}
 use Rattle.file.specs.Writing.{operandBytes, numberBytes, bytesOf}
-use Rattle.file.specs.Whole.{madeOf, numbersAt}
+use Rattle.file.specs.Whole.{standingAt}
 
 -- ---- a number as it is written
 pub one-group : (n : ℕ) → n < 128 → groups n ≡ n ∷ []
@@ -156,8 +156,8 @@ module _ (s : List ℕ) (at n : ℕ) (rest : List ℕ) where
 
 -- ---- numbers that were written stand there, and come to what they make at the place past them
 pub numbers-back : (s : List ℕ) (at : ℕ) (n : Numbers) (rest : List ℕ) → length s ≤ 65536 → Small n → drop at s ≡ numberBytes n ++ rest
-    → (numbersAt s at ≡ n) × (readAt s at ≡ placed (madeOf n) (at + length (numberBytes n)))
-unfolding numbersAt readAt operandsAt
+    → (standingAt s at ≡ n) × (readAt s at ≡ placed (madeOf n) (at + length (numberBytes n)))
+unfolding standingAt readAt operandsAt
 numbers-back s at n rest short small stands =
     let k : List ℕ = groups (n .kind) in
     let x : List ℕ = operandBytes (ltb 0 (operandCount (n .kind))) (n .x) in
@@ -187,7 +187,7 @@ bytes-of-made n e come =
 -- ---- what was read is what the numbers come to that stand there, as they are written: an event in range, or a refusal of 4 to 8 for one
 -- passed over; a refusal that ends the run is 1, 2, 3 or 9, and at the end nothing is left
 abbrev pub Stands : List ℕ → ℕ → Made → ℕ → Type 0
-Stands s at m next = (madeOf (numbersAt s at) ≡ m) × (Bytes s → drop at s ≡ numberBytes (numbersAt s at) ++ drop next s)
+Stands s at m next = (madeOf (standingAt s at) ≡ m) × (Bytes s → drop at s ≡ numberBytes (standingAt s at) ++ drop next s)
 
 abbrev pub ReadingFrom : List ℕ → ℕ → Reading → Type 0
 ReadingFrom s at (reading.Event e next) = (at < next) × (next ≤ length s) × InRange e × Stands s at (made.Event e) next
@@ -209,7 +209,7 @@ module _ (s : List ℕ) (at : ℕ) where
 
   operands-from : (kind p : ℕ) → kind ≤ 8 → numberAt s at ≡ number.Value kind p → ReadFrom s true at (number.Value kind p)
       → ReadingFrom s at (operandsAt s kind p)
-  unfolding operandsAt numbersAt
+  unfolding operandsAt standingAt
   operands-from kind p known k-is k =
       read-on (ltb 0 (operandCount kind)) p (operandAt s (ltb 0 (operandCount kind)) p) _ refl (operand-from s p _ (k .1)) (λ x q x-is kx.
       read-on (ltb 1 (operandCount kind)) q (operandAt s (ltb 1 (operandCount kind)) q) _ refl (operand-from s q _ (kx .1)) (λ y r y-is ky.

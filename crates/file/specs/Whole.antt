@@ -8,7 +8,7 @@ use Rattle.event.specs.declared.refusal.Refusal.{Refusal}
 use Rattle.event.specs.declared.events.Event.{Event}
 use Rattle.event.specs.declared.events.Made.{Made}
 use Rattle.event.specs.declared.events.Made.the-variants as made
-use Rattle.event.specs.Events.{operandCount, eventOf, Numbers}
+use Rattle.event.specs.Events.{operandCount, Numbers}
 use Rattle.file.specs.declared.number.Number.{Number}
 use Rattle.file.specs.declared.number.Number.the-variants as number
 use Rattle.file.specs.declared.reading.Reading.{Reading}
@@ -16,10 +16,6 @@ use Rattle.file.specs.declared.reading.Reading.the-variants as reading
 use Rattle.file.specs.Numbers.{numberAt, operandAt}
 use Rattle.file.specs.Reading.{readAt}
 use Rattle.file.specs.Writing.{numberBytes, bytesOf}
-
--- what numbers come to
-abbrev pub madeOf : Numbers → Made
-madeOf n = eventOf (n .kind) (n .x) (n .y) (n .z)
 
 -- numbers and events as they are written, one behind the other
 abbrev pub joined : List (List ℕ) → List ℕ
@@ -37,8 +33,8 @@ abbrev pub valueThen : Number → (ℕ → ℕ → Numbers) → Numbers
 valueThen (number.Value value next) f = f value next
 valueThen (number.Broken r) f = record { kind = 0; x = 0; y = 0; z = 0 }
 
-unfoldable pub numbersAt : List ℕ → ℕ → Numbers
-numbersAt s at =
+unfoldable pub standingAt : List ℕ → ℕ → Numbers
+standingAt s at =
     valueThen (numberAt s at) (λ kind p.
     valueThen (operandAt s (ltb 0 (operandCount kind)) p) (λ x q.
     valueThen (operandAt s (ltb 1 (operandCount kind)) q) (λ y r.
@@ -54,7 +50,7 @@ numbersThen n rest reading.End = []
 -- those of an input from a place on, in at most so many events
 unfoldable pub numbersFrom : ℕ → List ℕ → ℕ → List Numbers
 numbersFrom zero s at = []
-numbersFrom (suc k) s at = numbersThen (numbersAt s at) (numbersFrom k s) (readAt s at)
+numbersFrom (suc k) s at = numbersThen (standingAt s at) (numbersFrom k s) (readAt s at)
 
 -- ---- what is read of it, so counted: the history that the file has
 abbrev pub readingThen : (ℕ → List Made) → Reading → List Made

@@ -26,8 +26,9 @@ use Rattle.run.specs.declared.cursor.Cursor.{Cursor}
 use Rattle.run.specs.Run.{Indexed, runBy, runFrom, runOf}
 use Rattle.run.specs.Cursor.{newCursor, endedAt, progressBy, cursorAfter}
 use Rattle.run.specs.Laws.{going-cursor, over-still, cursor-sum}
-use Rattle.history.specs.Demand3.{ranFrom, ran, answersFrom, AllIn, Log, OfNewDevice, Demand3}
+use Rattle.history.specs.Demand3.{ranFrom, ran, answersFrom, AllIn, Log, OfNewDevice, remainder, Demand3, Alone}
 use Rattle.history.specs.Proved.{demand-3}
+use Rattle.history.specs.Alone.{alone}
 
 -- ---- the run's answers are those along the history, and the refusal that ends it
 run-from : (k : ℕ) (s : List ℕ) (at index : ℕ) (d : Device)
@@ -114,3 +115,8 @@ run-of-new-device s n over = record { range = history-in (length s) s 0; same = 
 
 pub demand-3-of-files : (w : Side) (s : List ℕ) (n : ℕ) → cursorAfter n s newCursor .over ≡ true → Demand3 w (runLog s (cursorAfter n s newCursor))
 demand-3-of-files w s n over = demand-3 w (runLog s (cursorAfter n s newCursor)) (run-of-new-device s n over)
+
+pub alone-of-files : (w : Side) (s t : List ℕ) (n k : ℕ) → cursorAfter n s newCursor .over ≡ true → cursorAfter k t newCursor .over ≡ true
+    → remainder w (historyOf s) ≡ remainder w (historyOf t) → Alone w (runLog s (cursorAfter n s newCursor)) (runLog t (cursorAfter k t newCursor))
+alone-of-files w s t n k over-s over-t same =
+    alone w (runLog s (cursorAfter n s newCursor)) (runLog t (cursorAfter k t newCursor)) (run-of-new-device s n over-s) (run-of-new-device t k over-t) same

@@ -7,7 +7,7 @@ use mathlib.Core.List.{List, [], _∷_, map}
 use Rattle.event.specs.declared.events.Event.the-variants as event
 use Rattle.event.specs.declared.events.Made.{Made}
 use Rattle.event.specs.declared.events.Touch.{Touch}
-use Rattle.event.specs.Events.{Numbers, numbersAt, judgedOf, TouchIn}
+use Rattle.event.specs.Events.{Numbers, numbersAt, madeOf, judgedOf, TouchIn}
 use Rattle.event.specs.Laws.{in-range-judged}
 use Rattle.device.specs.declared.side.Side.{Side}
 use Rattle.device.specs.declared.side.Side.the-variants as side
@@ -18,7 +18,7 @@ use Rattle.lent.specs.Lent.{Advanced}
 use Rattle.history.specs.Demand3.{ranFrom, answersFrom, Log, OfNewDevice, number, replyAt, remainder, Demand3, Alone}
 use Rattle.history.specs.Proved.{demand-3}
 use Rattle.history.specs.Alone.{alone}
-use Rattle.history.specs.Numbers.{madeOf, fromNumbers, numbers-in}
+use Rattle.history.specs.Numbers.{fromNumbers, numbers-in}
 
 -- a lent step: the numbers that it was given, the number that it answered, and the record that it left
 pub record Lending : Type 0 where

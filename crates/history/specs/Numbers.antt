@@ -4,7 +4,7 @@ use mathlib.Core.Path.{_≡_, refl}
 use mathlib.Core.List.{List, [], _∷_, map}
 use Rattle.event.specs.declared.events.Event.{Event}
 use Rattle.event.specs.declared.events.Made.{Made}
-use Rattle.event.specs.Events.{Numbers, eventOf, judgedOf}
+use Rattle.event.specs.Events.{Numbers, madeOf, judgedOf}
 use Rattle.device.specs.declared.side.Side.{Side}
 use Rattle.device.specs.Laws.{MadeIn, made-in, judged-in}
 use Rattle.history.specs.Demand3.{AllIn, logOf, OfNewDevice, remainder, Demand3, Alone}
@@ -12,9 +12,6 @@ use Rattle.history.specs.Proved.{demand-3}
 use Rattle.history.specs.Alone.{alone}
 
 -- what numbers, kind and three operands each, come to as a history
-abbrev pub madeOf : Numbers → Made
-madeOf n = eventOf (n .kind) (n .x) (n .y) (n .z)
-
 abbrev pub fromNumbers : List Numbers → List Made
 fromNumbers numbers = map madeOf numbers
 
