@@ -1,6 +1,7 @@
 -- Definitions: "The writer gives an event's bytes, five at most, with their count, places past the count 0; for a refused
 -- event none, a count of 0 and the refusal number."
 use Prim.Native.Nat.{ℕ, _+_, _-_}
+use mathlib.Core.Path.{_≡_}
 use mathlib.Core.Bool.{Bool}
 use mathlib.Core.List.{List, [], _++_}
 use lib.ListN.{length, drop, replicate}
@@ -52,3 +53,7 @@ putAnswer (made.Refused r) room = 512 + refusalNumber r
 unfoldable pub putInto : Made → List ℕ → List ℕ
 putInto (made.Event e) out = pick (fitsIn e (length out)) (bytesOf e ++ drop (length (bytesOf e)) out) out
 putInto (made.Refused r) out = out
+
+-- the two together, of a buffer before and after
+abbrev pub Put : List ℕ → Made → List ℕ → ℕ → Type 0
+Put before m after answer = (answer ≡ putAnswer m (length before)) × (after ≡ putInto m before)

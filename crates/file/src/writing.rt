@@ -8,7 +8,7 @@ ghost use mathlib.Core.List.{_++_};
 ghost use Prim.Native.Nat.{_≤_};
 ghost use lib.ListN.{length, take, drop};
 ghost use Rattle.event.specs.Events.{InRange, eventOf};
-ghost use Rattle.file.specs.Writing.{wholeOf, writtenOf, putAnswer, putInto};
+ghost use Rattle.file.specs.Writing.{wholeOf, writtenOf, Put};
 
 // The least number that takes two groups.
 const TWO_GROUPS: u8 = 128;
@@ -92,8 +92,7 @@ fn put_front(out: &mut [u8], bytes: [u8; 5], count: usize)
 // The event of plain numbers, written at the start of a buffer where it fits: the count of its bytes, 0 where it does
 // not fit, or 512 and the refusal number.
 pub fn put_event(out: &mut [u8], kind: u64, x: u64, y: u64, z: u64) -> u32
-    ensures { λ r. ⌜ r ≡ putAnswer (eventOf kind x y z) (length (now (out .entry))) ⌝ }
-    ensures { λ _. ⌜ now (out .exit) ≡ putInto (eventOf kind x y z) (now (out .entry)) ⌝ }
+    ensures { λ r. ⌜ Put (now (out .entry)) (eventOf kind x y z) (now (out .exit)) r ⌝ }
 {
     let written = write(kind, x, y, z);
     if written.refusal != 0 {

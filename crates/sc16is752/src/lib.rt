@@ -3,9 +3,8 @@ use device::Device;
 use file::put_event;
 use lent::advance;
 ghost use mathlib.Core.Path.{_≡_};
-ghost use lib.ListN.{length};
 ghost use Rattle.event.specs.Events.{eventOf};
-ghost use Rattle.file.specs.Writing.{putAnswer, putInto};
+ghost use Rattle.file.specs.Writing.{Put};
 ghost use Rattle.device.specs.Reset.{newDevice};
 ghost use Rattle.device.specs.Device.{WellFormed};
 ghost use Rattle.lent.specs.Lent.{Advanced};
@@ -31,8 +30,7 @@ pub extern "C" fn sc16is752_step(chip: &mut Device, kind: u64, x: u64, y: u64, z
 // bytes, 0 where they do not fit, or 512 and the refusal number.
 #[no_mangle]
 pub extern "C" fn sc16is752_event_bytes(kind: u64, x: u64, y: u64, z: u64, bytes: &mut [u8]) -> u32
-    ensures { λ r. ⌜ r ≡ putAnswer (eventOf kind x y z) (length (now (bytes .entry))) ⌝ }
-    ensures { λ _. ⌜ now (bytes .exit) ≡ putInto (eventOf kind x y z) (now (bytes .entry)) ⌝ }
+    ensures { λ r. ⌜ Put (now (bytes .entry)) (eventOf kind x y z) (now (bytes .exit)) r ⌝ }
 {
     put_event(bytes, kind, x, y, z)
 }

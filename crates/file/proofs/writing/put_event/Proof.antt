@@ -11,22 +11,19 @@ use Rattle.event.specs.declared.events.Made.the-variants as made
 use Rattle.event.specs.Events.{eventOf}
 use Rattle.event.specs.Laws.{refusal-some}
 use Rattle.file.specs.declared.writing.Written.{Written}
-use Rattle.file.specs.Writing.{bytesOf, padded, wholeOf, writtenOf, putAnswer, putInto}
+use Rattle.file.specs.Writing.{bytesOf, padded, wholeOf, writtenOf, putAnswer, putInto, Put}
 use Rattle.file.specs.Theorems.{written-five-at-most}
 use Rattle.file.proofs.writing.put_event.Statement.{statement}
 use Rattle.file.proofs.writing.put_event.Tie as tie
 
 -- what is answered and left of a buffer, by what was written of an event
-abbrev Put : Made → List ℕ → ℕ → List ℕ → Type 0
-Put m out answer after = (answer ≡ putAnswer m (length out)) × (after ≡ putInto m out)
-
 module _ (out : List ℕ) where
-  refused : (m : Made) (w : Written) → w ≡ writtenOf m → (w .refusal ≡ 0 → ⊥) → Put m out (512 + w .refusal) out
+  refused : (m : Made) (w : Written) → w ≡ writtenOf m → (w .refusal ≡ 0 → ⊥) → Put out m out (512 + w .refusal)
   unfolding writtenOf wholeOf padded putAnswer putInto
   refused (made.Event e) w is some = absurd (some (ap (λ (x : Written). x .refusal) is))
   refused (made.Refused r) w is some = (rw is, refl)
 
-  too-long : (m : Made) (w : Written) → w ≡ writtenOf m → w .refusal ≡ 0 → length out < w .count → Put m out 0 out
+  too-long : (m : Made) (w : Written) → w ≡ writtenOf m → w .refusal ≡ 0 → length out < w .count → Put out m out 0
   unfolding writtenOf wholeOf padded putAnswer putInto
   too-long (made.Event e) w is none short =
       let no : length out < length (bytesOf e) = rw is at short in
@@ -34,7 +31,7 @@ module _ (out : List ℕ) where
   too-long (made.Refused r) w is none short = absurd (omega (arith, refusal-some r, rw is at none))
 
   fitting : (m : Made) (w : Written) (after : List ℕ) → w ≡ writtenOf m → w .refusal ≡ 0 → w .count ≤ length out
-      → after ≡ take (w .count) (w .bytes) ++ drop (w .count) out → Put m out (w .count) after
+      → after ≡ take (w .count) (w .bytes) ++ drop (w .count) out → Put out m after (w .count)
   unfolding writtenOf wholeOf padded putAnswer putInto
   fitting (made.Event e) w after is none room put =
       let yes : length (bytesOf e) ≤ length out = rw is at room in
