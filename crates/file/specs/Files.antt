@@ -20,6 +20,11 @@ use Rattle.file.specs.Writing.{numberBytes}
 use Rattle.file.specs.Whole.{numbersWritten, eventsWritten, standingAt, numbersThen, numbersFrom, readingThen, historyFrom, endThen, endFrom, numbersIn, historyOf, endOf}
 use Rattle.file.specs.Laws.{Bytes, numbers-back, bytes-of-made, list-past, ReadingFrom, reading-from, past-the-end}
 
+-- numbers as a file can have them: a known kind, operands of two groups at most, and 0 for those that the kind lacks
+abbrev pub AllSmall : List Numbers → Type 0
+AllSmall [] = Unit {0}
+AllSmall (n ∷ numbers) = Small n × AllSmall numbers
+
 -- a list of bytes whose reading no refusal ends
 abbrev pub ReadToItsEnd : List ℕ → Type 0
 ReadToItsEnd s = Bytes s × (endOf s ≡ [])
@@ -33,14 +38,31 @@ module _ (s : List ℕ) where
     where
       go : ((at : ℕ) → historyFrom k s at ≡ map madeOf (numbersFrom k s at)) → (r : Reading) → ReadingFrom s at r
           → readingThen (historyFrom k s) r ≡ map madeOf (numbersThen (standingAt s at) (numbersFrom k s) r)
-      go rest (reading.Event e next) from = rw (rest next) (ap (λ (m : Made). m ∷ map madeOf (numbersFrom k s next)) (sym (from .3 .0)))
-      go rest (reading.Refused r next) from = rw (rest next) (ap (λ (m : Made). m ∷ map madeOf (numbersFrom k s next)) (sym (from .4 .0)))
+      go rest (reading.Event e next) from = rw (rest next) (ap (λ (m : Made). m ∷ map madeOf (numbersFrom k s next)) (sym (from .3 .1)))
+      go rest (reading.Refused r next) from = rw (rest next) (ap (λ (m : Made). m ∷ map madeOf (numbersFrom k s next)) (sym (from .4 .1)))
       go rest (reading.Ended r) from = refl
       go rest reading.End from = refl
 
   pub history-of-numbers : historyOf s ≡ map madeOf (numbersIn s)
   unfolding numbersIn
   history-of-numbers = made-from (length s) 0
+
+  -- they are such as a file can have
+  small-from : (k at : ℕ) → AllSmall (numbersFrom k s at)
+  unfolding numbersFrom
+  small-from zero at = tt
+  small-from (suc k) at = go (small-from k) (readAt s at) (reading-from s at)
+    where
+      go : ((at : ℕ) → AllSmall (numbersFrom k s at)) → (r : Reading) → ReadingFrom s at r
+          → AllSmall (numbersThen (standingAt s at) (numbersFrom k s) r)
+      go rest (reading.Event e next) from = (from .3 .0, rest next)
+      go rest (reading.Refused r next) from = (from .4 .0, rest next)
+      go rest (reading.Ended r) from = tt
+      go rest reading.End from = tt
+
+  pub numbers-in-small : AllSmall (numbersIn s)
+  unfolding numbersIn
+  numbers-in-small = small-from (length s) 0
 
   -- a file that is read to its end is, byte for byte, the numbers that stand in it as they are written, those of refused events too
   written-from : Bytes s → (k at : ℕ) → length s ≤ at + k → endFrom k s at ≡ [] → drop at s ≡ numbersWritten (numbersFrom k s at)
@@ -51,8 +73,8 @@ module _ (s : List ℕ) where
       go : ((at : ℕ) → length s ≤ at + k → endFrom k s at ≡ [] → drop at s ≡ numbersWritten (numbersFrom k s at))
           → (r : Reading) → ReadingFrom s at r → endThen (endFrom k s) r ≡ []
           → drop at s ≡ numbersWritten (numbersThen (standingAt s at) (numbersFrom k s) r)
-      go rest (reading.Event e next) from whole = rw (← rest next (omega (arith, from .0)) whole) (from .3 .1 bytes)
-      go rest (reading.Refused r next) from whole = rw (← rest next (omega (arith, from .0)) whole) (from .4 .1 bytes)
+      go rest (reading.Event e next) from whole = rw (← rest next (omega (arith, from .0)) whole) (from .3 .2 bytes)
+      go rest (reading.Refused r next) from whole = rw (← rest next (omega (arith, from .0)) whole) (from .4 .2 bytes)
       go rest (reading.Ended r) from whole = absurd (omega (arith, ap length whole))
       go rest reading.End from whole = drop-of-length-le s from
 
@@ -108,10 +130,6 @@ module _ (s : List ℕ) where
   every-history-ends k few = same-from k (length s) 0 (omega arith) (omega arith)
 
 -- ---- and what is written one behind the other, up to 65,536 bytes, is read back, all of it and nothing else
-abbrev pub AllSmall : List Numbers → Type 0
-AllSmall [] = Unit {0}
-AllSmall (n ∷ numbers) = Small n × AllSmall numbers
-
 module _ (s : List ℕ) (short : length s ≤ 65536) where
   placed-inside : (at next : ℕ) (m : Made) → ReadingFrom s at (placed m next) → (at < next) × (next ≤ length s)
   placed-inside at next (made.Event e) from = (from .0, from .1)
@@ -143,6 +161,7 @@ module _ (s : List ℕ) (short : length s ≤ 65536) where
           let on = placed-then k (at + length (numberBytes n)) n (madeOf n) in
           rw (back .0, back .1, on .0, on .1) (ap (λ (l : List Numbers). n ∷ l) (then .0), then .1)
 
+-- so a file that is read to its end and the numbers in it tell each other
 pub written-numbers-read-back : (numbers : List Numbers) → AllSmall numbers → length (numbersWritten numbers) ≤ 65536
     → (numbersIn (numbersWritten numbers) ≡ numbers) × (endOf (numbersWritten numbers) ≡ [])
 unfolding numbersIn

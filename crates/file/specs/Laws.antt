@@ -4,11 +4,11 @@ use native.Mathlib.Nat.{add-zero}
 use native.Mathlib.Numerals.{add-one}
 use native.Mathlib.Omega.{arith}
 use mathlib.Core.Path.{_≡_, refl, sym, ap, _∙_}
-use mathlib.Core.Bool.{Bool, true, false, _||_}
+use mathlib.Core.Bool.{Bool, true, false, true≢false, _||_}
 use mathlib.Core.List.{List, [], _∷_, _++_, append-assoc}
 use lib.ListN.{length, getD, drop, length-drop, length-append}
 use lib.Seq.{getD-drop, drop-cons, drop-drop, drop-append-seam}
-use lib.Dec.{ltb, leb}
+use lib.Dec.{eqb, ltb, leb}
 use borrow.Author.Tests.{lt-ltb, le-ltb, le-leb, lt-leb, ne-eqb, leb-true, leb-false, eqb-false, ltb-true, ltb-false}
 use Rattle.bits.specs.Choice.{pick, pick-by}
 use Rattle.event.specs.declared.refusal.Refusal.the-variants as refusal
@@ -71,12 +71,17 @@ Bytes s = (i : ℕ) → getD s i 0 < 256
 
 abbrev ReadFrom : List ℕ → Bool → ℕ → Number → Type 0
 ReadFrom s wanted at (number.Value n next) =
-    (at + pick wanted 1 0 ≤ next) × (next ≤ length s) × (Bytes s → drop at s ≡ operandBytes wanted n ++ drop next s)
+    (at + pick wanted 1 0 ≤ next) × (next ≤ length s) × Operand wanted n × (Bytes s → drop at s ≡ operandBytes wanted n ++ drop next s)
 ReadFrom s wanted at (number.Broken r) = refusalNumber r ≤ 2
 
-not-the-first : (a b : Bool) → a || b ≡ false → a ≡ false
-not-the-first true b h = h
-not-the-first false b h = refl
+neither : (a b : Bool) → a || b ≡ false → (a ≡ false) × (b ≡ false)
+neither true b h = absurd (true≢false h)
+neither false b h = (refl, h)
+
+second-whole : (byte : ℕ) → secondBroken byte ≡ false → (byte ≡ 0 → ⊥) × (byte < 128)
+second-whole byte h =
+    let both = neither (eqb byte 0) (leb 128 byte) h in
+    (eqb-false byte 0 (both .0), leb-false 128 byte (both .1))
 
 first-byte : (s : List ℕ) (at : ℕ) → at < length s → drop at s ≡ getD s at 0 ∷ drop (at + 1) s
 first-byte s at inside = rw (add-one, drop-cons s at 0)
@@ -84,15 +89,16 @@ first-byte s at inside = rw (add-one, drop-cons s at 0)
 module _ (s : List ℕ) (at : ℕ) where
   small-from : at < length s → getD s at 0 < 128 → ReadFrom s true at (number.Value (getD s at 0) (at + 1))
   small-from inside small =
-      (omega arith, omega arith, λ _. rw (one-group (getD s at 0) small) (first-byte s at inside))
+      (omega arith, omega arith, (omega arith, refl), λ _. rw (one-group (getD s at 0) small) (first-byte s at inside))
 
-  large-from : at + 1 < length s → 128 ≤ getD s at 0 → (getD s (at + 1) 0 ≡ 0 → ⊥)
+  large-from : at + 1 < length s → 128 ≤ getD s at 0 → (getD s (at + 1) 0 ≡ 0 → ⊥) × (getD s (at + 1) 0 < 128)
       → ReadFrom s true at (number.Value (getD s at 0 % 128 + 128 * getD s (at + 1) 0) (at + 1 + 1))
-  large-from inside marked some = (
+  large-from inside marked second = (
     omega arith,
     omega arith,
+    (omega (arith, second .1), refl),
     λ bytes.
-        rw (two-groups (getD s at 0 % 128 + 128 * getD s (at + 1) 0) (getD s at 0) (getD s (at + 1) 0) refl marked (bytes at) (omega arith))
+        rw (two-groups (getD s at 0 % 128 + 128 * getD s (at + 1) 0) (getD s at 0) (getD s (at + 1) 0) refl marked (bytes at) (omega (arith, second .0)))
         (rw (first-byte s at (omega arith), first-byte s (at + 1) inside)),
   )
 
@@ -104,12 +110,12 @@ module _ (s : List ℕ) (at : ℕ) where
       (λ small. small-from (leb-false (length s) at inside) (ltb-true (getD s at 0) 128 small)) (λ marked.
       pick-by (ReadFrom s true at) (leb (length s) (at + 1)) (λ _. omega arith) (λ again.
       pick-by (ReadFrom s true at) (secondBroken (getD s (at + 1) 0)) (λ _. omega arith)
-      (λ whole. large-from (leb-false (length s) (at + 1) again) (ltb-false (getD s at 0) 128 marked) (eqb-false (getD s (at + 1) 0) 0 (not-the-first _ _ whole))))))
+      (λ whole. large-from (leb-false (length s) (at + 1) again) (ltb-false (getD s at 0) 128 marked) (second-whole (getD s (at + 1) 0) whole)))))
 
   operand-from : (wanted : Bool) → at ≤ length s → ReadFrom s wanted at (operandAt s wanted at)
   unfolding operandAt
   operand-from true inside = number-from
-  operand-from false inside = (omega arith, inside, λ _. refl)
+  operand-from false inside = (omega arith, inside, (omega arith, refl), λ _. refl)
 
 -- ---- what stands at a place of an input
 module _ (s : List ℕ) (at : ℕ) {byte : ℕ} {rest : List ℕ} (stands : drop at s ≡ byte ∷ rest) where
@@ -187,7 +193,7 @@ bytes-of-made n e come =
 -- ---- what was read is what the numbers come to that stand there, as they are written: an event in range, or a refusal of 4 to 8 for one
 -- passed over; a refusal that ends the run is 1, 2, 3 or 9, and at the end nothing is left
 abbrev pub Stands : List ℕ → ℕ → Made → ℕ → Type 0
-Stands s at m next = (madeOf (standingAt s at) ≡ m) × (Bytes s → drop at s ≡ numberBytes (standingAt s at) ++ drop next s)
+Stands s at m next = Small (standingAt s at) × (madeOf (standingAt s at) ≡ m) × (Bytes s → drop at s ≡ numberBytes (standingAt s at) ++ drop next s)
 
 abbrev pub ReadingFrom : List ℕ → ℕ → Reading → Type 0
 ReadingFrom s at (reading.Event e next) = (at < next) × (next ≤ length s) × InRange e × Stands s at (made.Event e) next
@@ -215,7 +221,8 @@ module _ (s : List ℕ) (at : ℕ) where
       read-on (ltb 1 (operandCount kind)) q (operandAt s (ltb 1 (operandCount kind)) q) _ refl (operand-from s q _ (kx .1)) (λ y r y-is ky.
       read-on (ltb 2 (operandCount kind)) r (operandAt s (ltb 2 (operandCount kind)) r) _ refl (operand-from s r _ (ky .1)) (λ z next z-is kz.
       placed-from _ next (eventOf kind x y z) (made-of kind x y z) known (omega arith) (kz .1)
-      (rw (k-is, x-is, y-is, z-is) (refl, λ bytes. rw (k .2 bytes, kx .2 bytes, ky .2 bytes, kz .2 bytes) (simp append-assoc))))))
+      (rw (k-is, x-is, y-is, z-is)
+      ((known, kx .2, ky .2, kz .2), refl, λ bytes. rw (k .3 bytes, kx .3 bytes, ky .3 bytes, kz .3 bytes) (simp append-assoc))))))
 
   pub reading-from : ReadingFrom s at (readAt s at)
   unfolding readAt operandAt

@@ -74,7 +74,7 @@ module _ (s : List ℕ) (at : ℕ) where
       → (drop at s ≡ bytesOf e ++ drop next s) × (next ≡ at + length (bytesOf e))
   one-written-form {e} {next} bytes read =
       let from : ReadingFrom s at (reading.Event e next) = rw read at (reading-from s at) in
-      let stands : drop at s ≡ bytesOf e ++ drop next s = rw (bytes-of-made (standingAt s at) e (from .3 .0)) (from .3 .1 bytes) in
+      let stands : drop at s ≡ bytesOf e ++ drop next s = rw (bytes-of-made (standingAt s at) e (from .3 .1)) (from .3 .2 bytes) in
       (stands, omega (arith, simp (length-drop, length-append) at (ap length stands)))
 
   -- an event and a refused one end past their place and inside the input
