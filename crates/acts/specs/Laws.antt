@@ -7,8 +7,8 @@ use mathlib.Core.Bool.{Bool, false}
 use borrow.Author.Tests.{not-false}
 use Rattle.bits.specs.Choice.{pick-by}
 use Rattle.bits.specs.Laws.{flag-in}
-use Rattle.queue.specs.Queue.{Fits, afterOf, changed}
-use Rattle.queue.specs.Laws.{well-formed-changed, oldest-byte-below, ChangeIn, moved-in, fits-moved}
+use Rattle.queue.specs.Queue.{Fits, changed}
+use Rattle.queue.specs.Laws.{oldest-byte-below, ChangeIn, moved-in, fits-moved}
 use Rattle.event.specs.declared.events.Touch.{Touch}
 use Rattle.event.specs.declared.events.Touch.the-variants as touch
 use Rattle.event.specs.Events.{TouchIn}
@@ -46,16 +46,6 @@ act-shared ch (touch.Pins value) = refl
 act-shared ch touch.Quiet = refl
 act-shared ch touch.RtsLook = refl
 
-act-tx : (ch : Channel) (t : Touch) → actOf ch t .tx ≡ sent ch t
-unfolding actWith
-act-tx ch t = ap (λ act. act .tx) (act-shared ch t)
-
-pub act-free : (ch : Channel) (t : Touch) → WellFormed ch → actOf ch t .tx .count ≤ transmitRoom
-unfolding afterOf
-act-free ch t ok =
-    rw (act-tx ch t)
-    (well-formed-changed (ch .tx) (sentChange ch t) transmitRoom (ok .tx-in) (omega arith) .count-in)
-
 -- ---- and the step
 module _ (ch : Channel) (t : Touch) where
   pub step-settings : stepAt ch t .settings ≡ settingsAfter (ch .settings) t
@@ -71,8 +61,8 @@ module _ (ch : Channel) (t : Touch) where
   step-rx = ap (λ act. act .rx) (act-shared ch t)
 
   step-tx : stepAt ch t .tx ≡ sent ch t
-  unfolding stepAt settledOf
-  step-tx = act-tx ch t
+  unfolding stepAt settledOf actWith
+  step-tx = ap (λ act. act .tx) (act-shared ch t)
 
   pub rx-fits : Fits (stepAt ch t .rx)
   rx-fits = rw step-rx (fits-moved (ch .rx) (receiveChange (ch .settings) t) (roomOf (ch .settings)))

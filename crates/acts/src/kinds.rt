@@ -16,6 +16,7 @@ use registers::Setting;
 use registers::resets_device;
 ghost use mathlib.Core.Path.{_≡_};
 ghost use Rattle.queue.specs.Queue.{movedBy};
+ghost use Rattle.event.specs.Events.{TouchIn};
 ghost use Rattle.lines.specs.Transmit.{transmitRoom};
 ghost use Rattle.channel.specs.Channel.{WellFormed};
 ghost use Rattle.acts.specs.Touches.{sentBy};
@@ -157,8 +158,9 @@ fn rts_look(channel: Channel) -> Act
     lines_only(channel, channel.state, one_if(channel.rts()) as u16)
 }
 
+// An event whose values are in range.
 pub fn act(channel: Channel, touch: Touch) -> Act
-    requires { ⌜ WellFormed channel ⌝ }
+    requires { ⌜ WellFormed channel × TouchIn touch ⌝ }
     ensures { λ r. ⌜ r ≡ actOf channel touch ⌝ }
 {
     match touch {

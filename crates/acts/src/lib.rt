@@ -7,12 +7,13 @@ use channel::Step;
 use event::Touch;
 pub use kinds::act;
 ghost use mathlib.Core.Path.{_≡_};
+ghost use Rattle.event.specs.Events.{TouchIn};
 ghost use Rattle.channel.specs.Channel.{WellFormed};
 ghost use Rattle.acts.specs.Step.{stepAt};
 
-// What an event that names the channel comes to.
+// What an event that names the channel comes to, where its values are in range.
 pub fn step(channel: Channel, touch: Touch) -> Step
-    requires { ⌜ WellFormed channel ⌝ }
+    requires { ⌜ WellFormed channel × TouchIn touch ⌝ }
     ensures { λ r. ⌜ r ≡ stepAt channel touch ⌝ }
 {
     channel.settled(act(channel, touch))

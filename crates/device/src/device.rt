@@ -10,9 +10,10 @@ use event::Refusal;
 use event::Touch;
 use event::event_of;
 ghost use mathlib.Core.Path.{_≡_};
-ghost use Rattle.event.specs.Events.{eventOf, judgedOf};
+ghost use Rattle.event.specs.Events.{TouchIn, InRange, eventOf, judgedOf};
 ghost use Rattle.channel.specs.Channel.{WellFormed as ChannelWellFormed};
 ghost use Rattle.device.specs.Device.{WellFormed, givenFor, namedStep, irqOf, stepOf, answeredOf, answerNumber};
+ghost use Rattle.device.specs.Laws.{MadeIn};
 
 #[repr(C)]
 pub struct Device {
@@ -79,7 +80,7 @@ impl Device {
 
     // The step on an event that names a channel; the other channel stays as it was.
     fn named(self, side: Side, touch: Touch) -> Stepped
-        requires { ⌜ WellFormed self ⌝ }
+        requires { ⌜ WellFormed self × TouchIn touch ⌝ }
         ensures { λ r. ⌜ r ≡ namedStep self side touch ⌝ }
     {
         let mut device = self;
@@ -99,7 +100,7 @@ impl Device {
 
     // The step on an event whose values are in range.
     fn stepped(self, event: Event) -> Stepped
-        requires { ⌜ WellFormed self ⌝ }
+        requires { ⌜ WellFormed self × InRange event ⌝ }
         ensures { λ r. ⌜ r ≡ stepOf self event ⌝ }
     {
         match event {
@@ -116,7 +117,7 @@ impl Device {
     }
 
     fn answered(self, made: Made) -> Outcome
-        requires { ⌜ WellFormed self ⌝ }
+        requires { ⌜ WellFormed self × MadeIn made ⌝ }
         ensures { λ r. ⌜ r ≡ answeredOf self made ⌝ }
     {
         match made {

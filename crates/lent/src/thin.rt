@@ -8,7 +8,7 @@ use device::Device;
 use event::Touch;
 use queue::settle;
 ghost use mathlib.Core.Path.{_≡_};
-ghost use Rattle.event.specs.Events.{eventOf};
+ghost use Rattle.event.specs.Events.{TouchIn, eventOf};
 ghost use Rattle.channel.specs.Channel.{WellFormed as ChannelWellFormed};
 ghost use Rattle.acts.specs.Step.{touchedBy};
 ghost use Rattle.device.specs.Device.{WellFormed};
@@ -17,7 +17,7 @@ ghost use Rattle.lent.specs.Lent.{Advanced};
 
 // An event on the lent record of the channel that it names. The stored registers are written only where one is set.
 fn advance_channel(lent: &mut Channel, touch: Touch) -> Gave
-    requires { ⌜ ChannelWellFormed (now lent) ⌝ }
+    requires { ⌜ ChannelWellFormed (now lent) × TouchIn touch ⌝ }
     ensures { λ r. ⌜ (r ≡ gaveAt (now (lent .entry)) touch) × (now (lent .exit) ≡ touchedBy (now (lent .entry)) touch) ⌝ }
 {
     let step = step(*lent, touch);

@@ -1,4 +1,4 @@
-use Rattle.acts.specs.Laws.{act-free}
+use Rattle.acts.specs.Laws.{act-in}
 use borrow.Author.Needs.{needs}
 use Rattle.acts.specs.Step.{stepAt}
 use Rattle.acts.proofs.step.Statement.{statement}
@@ -8,7 +8,7 @@ act-requires : tie.Need-act-requires
 act-requires c κs = search needs
 
 settled-requires : tie.Need-settled-requires
-settled-requires c κs = (c .before .pre, rw (c .act .ensures) (act-free _ _ (c .before .pre)))
+settled-requires c κs = (c .before .pre .0, rw (c .act .ensures) (act-in _ (c .before .pre .0) _ (c .before .pre .1) .tx-in .count-in))
 
 returns : tie.Need-returns
 unfolding stepAt

@@ -31,7 +31,7 @@ use Rattle.walk.proofs.Meets.{Call, Post, now-lent, meets, leaves}
 use Rattle.bits.specs.Choice.{pick}
 use Rattle.event.specs.declared.events.Made.{Made}
 use Rattle.event.specs.declared.events.Touch.{Touch}
-use Rattle.event.specs.Events.{eventOf}
+use Rattle.event.specs.Events.{TouchIn, eventOf}
 use Rattle.channel.specs.Channel as channel
 use Rattle.acts.specs.Step.{touchedBy}
 use Rattle.channel.proofs.channel.Channel as K
@@ -39,6 +39,7 @@ use Rattle.device.specs.declared.side.Side.the-variants as side
 use Rattle.device.specs.declared.device.Device.{Device}
 use Rattle.device.specs.Reset.{resetDevice}
 use Rattle.device.specs.Device.{WellFormed}
+use Rattle.device.specs.Laws.{made-in}
 use Rattle.device.proofs.device.Device as D
 use Rattle.device.proofs.device.Device.Laws as D′
 use Rattle.device.proofs.device.Device.reset as reset
@@ -49,6 +50,7 @@ use Rattle.lent.specs.declared.way.Gave.{Gave}
 use Rattle.lent.specs.declared.way.Way.{Way}
 use Rattle.lent.specs.Lent.{Advanced}
 use Rattle.lent.specs.Way.{wayOf, gaveAside, gaveAt}
+use Rattle.lent.specs.Laws.{way-in}
 use Rattle.lent.proofs.way.Gave as G
 use Rattle.lent.proofs.way.Gave.Laws as G′
 use Rattle.lent.proofs.way.Way as Y
@@ -112,6 +114,9 @@ module _ {M : Type 1} (𝓤 : URA M) (H : Heap 𝓤) (A : Atoms 𝓤) (W : Given
   abbrev taken : Asked → Way
   taken y = wayOf (event y)
 
+  in-range : (y : Asked) → TouchIn (taken y .touch)
+  in-range y = way-in (event y) (made-in (y .a .0) (y .a .1 .0) (y .a .1 .1 .0) (y .a .1 .1 .1 .0))
+
   abbrev Ends : Asked → Val → SProp 𝓤
   Ends y = Post 𝓤 H A W D.the-row (f.clauses 𝓤 H A at-mem run) (uint w32) (λ κs. numbers) (λ κs a. (tt, (tt, (tt, (tt, tt))))) y tt
 
@@ -124,14 +129,14 @@ module _ {M : Type 1} (𝓤 : URA M) (H : Heap 𝓤) (A : Atoms 𝓤) (W : Given
 
   -- a channel of the device is lent
   advances : {n : ℕ} (ch : FieldOf D.the-row K.the-row n) (x : Device) → channel.WellFormed (ch .get x)
-      → (t : Touch) → Known touch-data t → (b o : ℕ)
+      → (t : Touch) → TouchIn t → Known touch-data t → (b o : ℕ)
       → Turns 𝓤 H A (𝓣 .C) #at (vptr b (o + n) ∷ touch-data .val t ∷ [])
       (lies D.the-row x b o) (lies D.the-row (ch .put x (touchedBy (ch .get x) t)) b o) G.the-row (gaveAt (ch .get x) t)
-  advances {n} ch x wf t is b o =
+  advances {n} ch x wf t t-in is b o =
       lend 𝓤 H A W (𝓣 .C) fm #at ch x (touchedBy (ch .get x) t) b o
       (lent 𝓤 H A W (𝓣 .C) fm #at K.the-row (at.clauses 𝓤 H A at-mem run) known-at (ch .get x) (touchedBy (ch .get x) t) b (o + n)
       (touch-data .val t ∷ []) (λ κs. (touch-data, tt)) (λ κs. (t, tt)) (λ κs. refl) (λ κs. (is, tt))
-      (λ κs δ. tt) (λ κs δ. factI 𝓤 (channel.WellFormed (ch .get x)) (emp 𝓤) wf) (gaveAt (ch .get x) t) (λ κs δ r ws. id⊢ 𝓤 _))
+      (λ κs δ. tt) (λ κs δ. factI 𝓤 (channel.WellFormed (ch .get x) × TouchIn t) (emp 𝓤) (wf, t-in)) (gaveAt (ch .get x) t) (λ κs δ r ws. id⊢ 𝓤 _))
 
   module _ (y : Asked) (bs : Blocks (code.function .locals)) (d : Device) (g : Gave) (g-is : Known gave-data g)
       (e : Comes (y .x) (event y) d g) where
@@ -193,7 +198,7 @@ module _ {M : Type 1} (𝓤 : URA M) (H : Heap 𝓤) (A : Atoms 𝓤) (W : Given
       -- channel A's
       (λ i. takes ! K.the-row 0 tt refl refl tt (tt, tt) $
       calls-end ! fm gave-data (gaveAt (y .x .a) (taken y .touch))
-      (advances a (y .x) (wf .a-in) (taken y .touch) (touch-known (taken y) way-is) (y .b) (y .o))
+      (advances a (y .x) (wf .a-in) (taken y .touch) (in-range y) (touch-known (taken y) way-is) (y .b) (y .o))
       (λ z. and-then ! (own ! 14 tt refl) (and-then ! (own-field ! 6 2 tt refl tt tt) (no-more !))) tt refl (λ g-is.
       exec ! (𝓣 .C) (𝓣 .Λ) (E bs) (assign (place 9 []) (rvOpd (copy (place 13 []))))
       (ahead (𝓣 .C) (𝓣 .Λ) (E bs) body.t-4 (atRet (E bs) (Ends y))) $
@@ -202,7 +207,7 @@ module _ {M : Type 1} (𝓤 : URA M) (H : Heap 𝓤) (A : Atoms 𝓤) (W : Given
       -- channel B's
       (λ i. takes ! K.the-row 286 tt refl refl tt (tt, tt) $
       calls-end ! fm gave-data (gaveAt (y .x .b) (taken y .touch))
-      (advances b (y .x) (wf .b-in) (taken y .touch) (touch-known (taken y) way-is) (y .b) (y .o))
+      (advances b (y .x) (wf .b-in) (taken y .touch) (in-range y) (touch-known (taken y) way-is) (y .b) (y .o))
       (λ z. and-then ! (own ! 15 tt refl) (and-then ! (own-field ! 6 2 tt refl tt tt) (no-more !))) tt refl (λ g-is.
       exec ! (𝓣 .C) (𝓣 .Λ) (E bs) (assign (place 9 []) (rvOpd (copy (place 13 []))))
       (ahead (𝓣 .C) (𝓣 .Λ) (E bs) body.t-4 (atRet (E bs) (Ends y))) $

@@ -39,6 +39,7 @@ use Rattle.queue.proofs.settle.Symbol as s-def
 use Rattle.queue.proofs.settle.Symbol.{name as #s}
 use Rattle.queue.proofs.settle.Met as s-thm
 use Rattle.event.specs.declared.events.Touch.{Touch}
+use Rattle.event.specs.Events.{TouchIn}
 use Rattle.channel.specs.declared.channel.Channel.{Channel}
 use Rattle.channel.specs.declared.settle.Step.{Step}
 use Rattle.channel.specs.Channel.{WellFormed}
@@ -101,11 +102,11 @@ module _ {M : Type 1} (𝓤 : URA M) (H : Heap 𝓤) (A : Atoms 𝓤) (W : Given
   abbrev step : Asked → Step
   step y = stepAt (y .x) (y .a .0)
 
-  steps : (i : Item 𝓤) (x : Channel) (t : Touch) → WellFormed x → Known channel-data x → Known touch-data t
+  steps : (i : Item 𝓤) (x : Channel) (t : Touch) → WellFormed x × TouchIn t → Known channel-data x → Known touch-data t
       → Turns 𝓤 H A (𝓣 .C) #g (channel-data .val x ∷ touch-data .val t ∷ []) i i S.the-row (stepAt x t)
   steps i x t wf is is-t =
       by-value 𝓤 H A W (𝓣 .C) fm #g (g.clauses 𝓤 H A at-mem run) known-g i
-      (channel-data, (touch-data, tt)) (x, (t, tt)) (is, (is-t, tt)) tt (factI 𝓤 (WellFormed x) (emp 𝓤) wf) (stepAt x t) (λ r ws. id⊢ 𝓤 _)
+      (channel-data, (touch-data, tt)) (x, (t, tt)) (is, (is-t, tt)) tt (factI 𝓤 (WellFormed x × TouchIn t) (emp 𝓤) wf) (stepAt x t) (λ r ws. id⊢ 𝓤 _)
 
   -- a queue of the channel is lent
   settles-in : {n : ℕ} (queue : FieldOf K.the-row Q.the-row n) (x : Channel) (m : Moved) → Fits m → Known moved m → (b o : ℕ)
@@ -136,7 +137,7 @@ module _ {M : Type 1} (𝓤 : URA M) (H : Heap 𝓤) (A : Atoms 𝓤) (W : Given
   unfolding afterStep
   f-meets =
       meets 𝓤 H A W K.the-row (f.clauses 𝓤 H A at-mem run) gave-data (λ κs. (touch-data, tt)) (λ κs a. (tt, tt)) ((λ κs x f. refl), tt)
-      (λ y. WellFormed (y .x)) (λ y g. id⊢ 𝓤 _) 𝓣 code.function (λ κs bs. (refl, (refl, tt))) (λ y g are wf bs. knows ! channel-data (λ is.
+      (λ y. WellFormed (y .x) × TouchIn (y .a .0)) (λ y g. id⊢ 𝓤 _) 𝓣 code.function (λ κs bs. (refl, (refl, tt))) (λ y g are wf bs. knows ! channel-data (λ is.
       copies ! channel-data (y .x) is tt refl refl tt refl $
       calls ! fm step-data (step y) (steps _ (y .x) (y .a .0) wf is (are .0))
       (λ z. and-then ! (own ! 4 tt refl) (and-then ! (own ! 2 tt refl) (no-more !))) tt refl (λ given.

@@ -7,7 +7,7 @@ enum-known-made : tie.Need-enum-known-made
 enum-known-made c = search needs
 
 stepped-requires : tie.Need-stepped-requires
-stepped-requires c κs = search needs
+stepped-requires c κs = (c .before .before .before .pre .0, rw (c .before .made .given .1) at (c .before .before .before .pre .1))
 
 enum-known-made-2 : tie.Need-enum-known-made-2
 enum-known-made-2 c = search needs

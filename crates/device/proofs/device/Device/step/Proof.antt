@@ -1,4 +1,5 @@
 use borrow.Author.Needs.{needs}
+use Rattle.device.specs.Laws.{judged-in}
 use Rattle.device.specs.Device.{answeredOf}
 use Rattle.device.proofs.device.Device.step.Statement.{statement}
 use Rattle.device.proofs.device.Device.step.Tie as tie
@@ -7,7 +8,7 @@ judged-requires : tie.Need-judged-requires
 judged-requires c κs = search needs
 
 answered-requires : tie.Need-answered-requires
-answered-requires c κs = search needs
+answered-requires c κs = (c .before .pre, rw (c .judged .ensures) (judged-in _))
 
 returns : tie.Need-returns
 unfolding answeredOf

@@ -1,4 +1,5 @@
 use borrow.Author.Needs.{needs}
+use Rattle.device.specs.Laws.{made-in}
 use Rattle.device.specs.Device.{answeredOf}
 use Rattle.device.proofs.device.Device.step_numbers.Statement.{statement}
 use Rattle.device.proofs.device.Device.step_numbers.Tie as tie
@@ -7,7 +8,7 @@ event-of-requires : tie.Need-event-of-requires
 event-of-requires c κs = search needs
 
 answered-requires : tie.Need-answered-requires
-answered-requires c κs = search needs
+answered-requires c κs = (c .before .pre, rw (c .event-of .ensures) (made-in _ _ _ _))
 
 returns : tie.Need-returns
 unfolding answeredOf

@@ -10,7 +10,8 @@ numbered-requires : tie.Need-numbered-requires
 numbered-requires c κs = search needs
 
 named-requires : tie.Need-named-requires
-named-requires c κs = search needs
+named-requires c κs =
+    (c .before .before .before .before .pre .0, (rw (c .before .before .event .given .1) at (c .before .before .before .before .pre .1)) .1)
 
 enum-told : tie.Need-enum-told
 enum-told c = search needs
