@@ -1,13 +1,9 @@
 -- Laws: what is within its bounds stays so: the lines with one of them anew, an act with what settles after it, and the
 -- channel after a step; and that a read gives a byte.
-use Prim.Native.Nat.{ℕ, _<_, _≤_}
+use Prim.Native.Nat.{_<_, _≤_}
 use native.Mathlib.Omega.{arith}
 use mathlib.Core.Bool.{Bool}
-use Rattle.queue.specs.declared.Queue.{Queue}
-use Rattle.queue.specs.declared.Moved.{Moved}
-use Rattle.queue.specs.Queue as queue
-use Rattle.queue.specs.Queue.{Below, afterOf}
-use Rattle.queue.specs.Laws.{MovedIn, well-formed-after, put-below, oldest-byte-below, oldest-mark-below}
+use Rattle.queue.specs.Laws.{MovedIn, queue-after, bytes-after, marks-after, oldest-byte-below, oldest-mark-below}
 use Rattle.registers.specs.declared.register.Register.{Register}
 use Rattle.registers.specs.declared.register.Register.the-variants as register
 use Rattle.registers.specs.Bounds.{SettingIn, SettingsIn}
@@ -79,28 +75,16 @@ settled-in ch act ok h =
     }
 
 -- ---- the channel after a step
-module _ (q : Queue) (m : Moved) (moved : MovedIn m) where
-  numbers-after : queue.WellFormed q → queue.WellFormed (afterOf q m)
-  numbers-after ok = well-formed-after q m ok (moved .start-in) (moved .count-in)
-
-  bytes-after : Below 256 (q .bytes) → Below 256 (afterOf q m .bytes)
-  unfolding afterOf
-  bytes-after h = put-below 256 (m .puts) (q .bytes) (m .place) (m .character .byte) (moved .character-in .byte-in) h
-
-  marks-after : Below 8 (q .marks) → Below 8 (afterOf q m .marks)
-  unfolding afterOf
-  marks-after h = put-below 8 (m .puts) (q .marks) (m .place) (m .character .mark) (moved .character-in .mark-in) h
-
 pub well-formed-stepped : (ch : Channel) (step : Step) → WellFormed ch → StepIn step → WellFormed (afterStep ch step)
 unfolding afterStep
 well-formed-stepped ch step ok h =
     record {
       settings-in = h .settings-in;
       lines-in = h .lines-in;
-      rx-in = numbers-after (ch .rx) (step .rx) (h .rx-in) (ok .rx-in);
+      rx-in = queue-after (ch .rx) (step .rx) (h .rx-in) (ok .rx-in);
       bytes-in = bytes-after (ch .rx) (step .rx) (h .rx-in) (ok .bytes-in);
       marks-in = marks-after (ch .rx) (step .rx) (h .rx-in) (ok .marks-in);
-      tx-in = numbers-after (ch .tx) (step .tx) (h .tx-in) (ok .tx-in);
+      tx-in = queue-after (ch .tx) (step .tx) (h .tx-in) (ok .tx-in);
       sent-bytes-in = bytes-after (ch .tx) (step .tx) (h .tx-in) (ok .sent-bytes-in);
       sent-marks-in = marks-after (ch .tx) (step .tx) (h .tx-in) (ok .sent-marks-in);
     }

@@ -2,4 +2,5 @@
 pub mod Reset
 pub mod Device
 pub mod Laws
+pub mod Replies
 pub mod Settled

@@ -171,7 +171,7 @@ module _ (bound : ℕ) where
   unfolding Below
   empty-below some place = rw (zeros 64 place) some
 
-  pub put-below : (puts : Bool) (places : List ℕ) (at x : ℕ) → x < bound → Below bound places → Below bound (putInto puts places at x)
+  put-below : (puts : Bool) (places : List ℕ) (at x : ℕ) → x < bound → Below bound places → Below bound (putInto puts places at x)
   unfolding Below
   put-below true places at x x-in h = set-below bound places at x x-in h
   put-below false places at x x-in h = h
@@ -223,6 +223,19 @@ moved-in q a room ok r h =
       place-in = fits-moved q a room;
       character-in = character-moved q a room h;
     }
+
+-- the queue after it, and what stands at its places
+module _ (q : Queue) (m : Moved) (moved : MovedIn m) where
+  pub queue-after : WellFormed q → WellFormed (afterOf q m)
+  queue-after ok = well-formed-after q m ok (moved .start-in) (moved .count-in)
+
+  pub bytes-after : Below 256 (q .bytes) → Below 256 (afterOf q m .bytes)
+  unfolding afterOf
+  bytes-after h = put-below 256 (m .puts) (q .bytes) (m .place) (m .character .byte) (moved .character-in .byte-in) h
+
+  pub marks-after : Below 8 (q .marks) → Below 8 (afterOf q m .marks)
+  unfolding afterOf
+  marks-after h = put-below 8 (m .puts) (q .marks) (m .place) (m .character .mark) (moved .character-in .mark-in) h
 
 -- by one change or another, as a condition has it
 pub moved-pick : (q : Queue) (goes : Bool) (a b : Change) (room : ℕ) → movedBy q (pick goes a b) room ≡ pick goes (movedBy q a room) (movedBy q b room)
