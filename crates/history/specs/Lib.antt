@@ -7,6 +7,7 @@ pub mod Seen
 pub mod Agreement
 pub mod Order
 pub mod Reads
+pub mod Records
 pub mod Proved
 pub mod Alone
 pub mod Numbers
