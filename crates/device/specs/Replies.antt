@@ -15,6 +15,7 @@ use Rattle.event.specs.declared.events.Made.the-variants as made
 use Rattle.event.specs.declared.events.Touch.{Touch}
 use Rattle.event.specs.Refusals.{refusalNumber}
 use Rattle.event.specs.Events.{TouchIn, InRange}
+use Rattle.event.specs.Laws.{refusal-some}
 use Rattle.acts.specs.Touches.{resetsBy}
 use Rattle.acts.specs.Laws.{step-in}
 use Rattle.device.specs.declared.side.Side.{Side}
@@ -55,15 +56,7 @@ reply-below reply h = omega arith
 
 pub refusal-above : (r : Refusal) → 512 < answerNumber (answer.Refused r)
 unfolding answerNumber
-refusal-above refusal.Number = omega arith
-refusal-above refusal.Short = omega arith
-refusal-above refusal.Kind = omega arith
-refusal-above refusal.Channel = omega arith
-refusal-above refusal.Address = omega arith
-refusal-above refusal.Byte = omega arith
-refusal-above refusal.Mark = omega arith
-refusal-above refusal.Pins = omega arith
-refusal-above refusal.Long = omega arith
+refusal-above r = omega (arith, refusal-some r)
 
 abbrev byNumber : List Refusal
 byNumber =

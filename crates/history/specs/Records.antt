@@ -1,23 +1,25 @@
 -- Laws: the record after every history, on both channels: it is well formed, so that the bits that stay 0 are 0, in the
 -- stored registers and in what a read of them replies, and every reply is at most 256.
-use Prim.Native.Nat.{ℕ, _≤_}
+use Prim.Native.Nat.{ℕ}
 use native.Mathlib.Omega.{arith}
 use mathlib.Core.Path.{_≡_, refl}
 use mathlib.Core.Bool.{false}
-use mathlib.Core.List.{List}
+use mathlib.Core.List.{List, [], _∷_}
 use Rattle.bits.specs.Bits.{partAt, bitAt}
 use Rattle.event.specs.declared.events.Made.{Made}
-use Rattle.event.specs.declared.events.Made.the-variants as made
 use Rattle.registers.specs.declared.register.Register.the-variants as register
 use Rattle.registers.specs.declared.settings.Settings.{Settings}
 use Rattle.registers.specs.Windows.{registerAt}
 use Rattle.registers.specs.Bounds.{SettingsIn}
 use Rattle.channel.specs.Channel.{readOf}
 use Rattle.device.specs.declared.side.Side.{Side}
-use Rattle.device.specs.Device.{WellFormed, channelAt}
-use Rattle.device.specs.Laws.{MadeIn, well-formed-at}
-use Rattle.device.specs.Replies.{reply-at-most-256}
-use Rattle.history.specs.Demand3.{ran, AllIn, replyTo, readReply}
+use Rattle.device.specs.declared.device.Device.{Device}
+use Rattle.device.specs.declared.device.Answer.{Answer}
+use Rattle.device.specs.Reset.{newDevice}
+use Rattle.device.specs.Device.{WellFormed, channelAt, answeredOf}
+use Rattle.device.specs.Laws.{well-formed-at, well-formed-new, well-formed-answered}
+use Rattle.device.specs.Replies.{AnswerIn, answer-in}
+use Rattle.history.specs.Demand3.{ran, answersFrom, AllIn, logOf, readReply}
 use Rattle.history.specs.Agreement.{well-formed-ran}
 use Rattle.history.specs.Reads.{read-reply}
 
@@ -73,18 +75,26 @@ module _ (history : List Made) (range : AllIn history) where
 
   -- and so in what a read of MCR or EFCR replies
   pub mcr-reply : (w : Side) (address : ℕ) → registerAt (stored w history) address ≡ register.Mcr
-      → bitAt (readReply w history address) 3 ≡ false
+      → bitAt (readReply w (logOf history) address) 3 ≡ false
   unfolding readOf
   mcr-reply w address named = rw (read-reply (ran history) w address register.Mcr named) (bits-stay-zero w .mcr-3)
 
   pub efcr-reply : (w : Side) (address : ℕ) → registerAt (stored w history) address ≡ register.Efcr
-      → (bitAt (readReply w history address) 3 ≡ false) × (bitAt (readReply w history address) 6 ≡ false) × (bitAt (readReply w history address) 7 ≡ false)
+      → (bitAt (readReply w (logOf history) address) 3 ≡ false) × (bitAt (readReply w (logOf history) address) 6 ≡ false) × (bitAt (readReply w (logOf history) address) 7 ≡ false)
   unfolding readOf
   efcr-reply w address named =
       rw (read-reply (ran history) w address register.Efcr named)
       (bits-stay-zero w .efcr-3, bits-stay-zero w .efcr-6, bits-stay-zero w .efcr-7)
 
-  -- "the byte", a fate, "character that left, or 256": what the device replies to one more event
-  pub replies-at-most-256 : (m : Made) → MadeIn m → replyTo (ran history) m ≤ 256
-  replies-at-most-256 (made.Event e) e-in = reply-at-most-256 (ran history) e e-in always-well-formed
-  replies-at-most-256 (made.Refused r) r-in = omega arith
+-- ---- every reply on the way is at most 256
+abbrev pub AnswersIn : List Answer → Type 0
+AnswersIn [] = Unit {0}
+AnswersIn (a ∷ answers) = AnswerIn a × AnswersIn answers
+
+answers-from : (history : List Made) (d : Device) → AllIn history → WellFormed d → AnswersIn (answersFrom d history)
+answers-from [] d range ok = tt
+answers-from (m ∷ history) d range ok =
+    (answer-in d m (range .0) ok, answers-from history (answeredOf d m .device) (range .1) (well-formed-answered d m (range .0) ok))
+
+pub replies-at-most-256 : (history : List Made) → AllIn history → AnswersIn (answersFrom newDevice history)
+replies-at-most-256 history range = answers-from history newDevice range well-formed-new
