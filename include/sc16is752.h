@@ -4,8 +4,9 @@
  * - chip is not null and points to sizeof(struct sc16is752) bytes that the caller may read and write. Any alignment does.
  * - Before sc16is752_new the record is zeroed, once. Before sc16is752_step it has been through sc16is752_new.
  * - Only these two functions write the record. Reading it, and copying it whole to another record, is free. A record from
- *   anywhere else has to be well formed: in each queue start < 64 and count <= 64, in rx every mark < 8, in line
- *   quiet <= 4, in modem pins < 16 and changes < 16, and in every bool 0 or 1.
+ *   anywhere else has to be well formed: in each queue start < 64, count <= 64 and every mark < 8, in line
+ *   quiet <= 4, in modem pins < 16 and changes < 16, in settings bits 3:1 of fcr, 3 of mcr and 7, 6 and 3 of efcr 0, and
+ *   in every bool 0 or 1.
  * - bytes is not null and points to length bytes that the caller may read and write; a length of 0 will do.
  * - While a call runs, nothing else touches its record or its bytes: one thread at a time, and no signal handler between.
  *
