@@ -5,8 +5,7 @@ use bits::joined;
 use registers::Register;
 use registers::Settings;
 ghost use mathlib.Core.Path.{_≡_};
-ghost use Prim.Native.Nat.{_<_};
-ghost use Rattle.lines.specs.Modem.{ctsAsserted, ctsOff, pinsChanged, modemRead, msrOf};
+ghost use Rattle.lines.specs.Modem.{ModemIn, ctsAsserted, ctsOff, pinsChanged, modemRead, msrOf};
 
 #[repr(C)]
 pub struct Modem {
@@ -49,7 +48,7 @@ impl Modem {
     }
 
     pub fn msr(self) -> u8
-        requires { ⌜ (self .pins < 16) × (self .changes < 16) ⌝ }
+        requires { ⌜ ModemIn self ⌝ }
         ensures { λ r. ⌜ r ≡ msrOf self ⌝ }
     {
         joined(self.changes, 4, self.pins)

@@ -17,7 +17,7 @@ use Rattle.queue.specs.declared.Character.{Character}
 use Rattle.queue.specs.declared.Queue.{Queue}
 use Rattle.queue.specs.declared.Moved.{Moved}
 use Rattle.queue.specs.Change.{Change, Add, Take, Clear, Stay}
-use Rattle.queue.specs.Queue.{WellFormed, Below, CharacterIn, Fits, none, emptyQueue, oldestOf, markedFrom, anyMarkOf, addsTo, takesFrom, clearsAll, staysAs, movedBy, putInto, afterOf, changed}
+use Rattle.queue.specs.Queue.{WellFormed, Below, Fits, none, emptyQueue, oldestOf, markedFrom, anyMarkOf, addsTo, takesFrom, clearsAll, staysAs, movedBy, putInto, afterOf, changed}
 use Rattle.queue.specs.List.{charAt, itemsFrom, items, someMark, listAfter}
 
 -- ---- the length is the count
@@ -192,6 +192,11 @@ fits-moved q (Add c) room = omega arith
 fits-moved q Take room = omega arith
 fits-moved q Clear room = omega arith
 fits-moved q Stay room = omega arith
+
+-- a character within its bounds: a byte, and a mark that is a sum of 1, 2 and 4
+pub record CharacterIn (c : Character) : Type 0 where
+  pub byte-in : c .byte < 256
+  pub mark-in : c .mark < 8
 
 -- what becomes of a queue within the bounds of one
 pub record MovedIn (m : Moved) : Type 0 where

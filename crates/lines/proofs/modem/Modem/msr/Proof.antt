@@ -7,7 +7,7 @@ joined-requires : tie.Need-joined-requires
 joined-requires c κs = search needs
 
 returns : tie.Need-returns
-returns c = simp (c .joined .ensures) (msr-sum _ (c .before .pre .0) (c .before .pre .1))
+returns c = simp (c .joined .ensures) (msr-sum _ (c .before .pre))
 
 pub msr-spec : {M : Type 1} → statement M
 msr-spec = tie.close (tie.spec joined-requires returns)
