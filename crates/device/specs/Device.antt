@@ -1,5 +1,5 @@
 -- Definitions: the device: its record, and what an event makes of it.
-use Prim.Native.Nat.{ℕ, _+_}
+use Prim.Native.Nat.{ℕ}
 use mathlib.Core.Bool.{Bool, _||_}
 use lib.Dec.{eqb}
 use Rattle.bits.specs.Choice.{pick}
@@ -9,7 +9,7 @@ use Rattle.event.specs.declared.events.Event.the-variants as event
 use Rattle.event.specs.declared.events.Made.{Made}
 use Rattle.event.specs.declared.events.Made.the-variants as made
 use Rattle.event.specs.declared.events.Touch.{Touch}
-use Rattle.event.specs.Refusals.{refusalNumber}
+use Rattle.event.specs.Refusals.{refusalNumber, refusedAnswer}
 use Rattle.interrupts.specs.Interrupts.{isPending}
 use Rattle.channel.specs.declared.channel.Channel.{Channel}
 use Rattle.channel.specs.Channel as channel
@@ -74,4 +74,4 @@ answeredOf d (made.Refused r) = record { device = d; answer = answer.Refused r }
 -- an answer as one number: the reply, or 512 and the refusal number
 unfoldable pub answerNumber : Answer → ℕ
 answerNumber (answer.Reply n) = n
-answerNumber (answer.Refused r) = 512 + refusalNumber r
+answerNumber (answer.Refused r) = refusedAnswer (refusalNumber r)

@@ -9,6 +9,7 @@ use event::Made;
 use event::Refusal;
 use event::Touch;
 use event::event_of;
+use event::refused_answer;
 ghost use mathlib.Core.Path.{_≡_};
 ghost use Rattle.event.specs.Events.{TouchIn, InRange, eventOf, judgedOf};
 ghost use Rattle.channel.specs.Channel.{WellFormed as ChannelWellFormed};
@@ -39,16 +40,13 @@ pub struct Outcome {
 }
 
 impl Answer {
-    // What a refusal's number is added to. Replies go up to 256.
-    pub const REFUSED: u32 = 512;
-
     // The answer as one number: the reply, or the refusal above all replies.
     pub fn number(self) -> u32
         ensures { λ r. ⌜ r ≡ answerNumber self ⌝ }
     {
         match self {
             Answer::Reply(reply) => reply as u32,
-            Answer::Refused(refusal) => Answer::REFUSED + (refusal.number() as u32),
+            Answer::Refused(refusal) => refused_answer(refusal.number()),
         }
     }
 }

@@ -1,5 +1,5 @@
 -- Definitions: the refusals by document 01's numbers.
-use Prim.Native.Nat.{ℕ}
+use Prim.Native.Nat.{ℕ, _+_}
 use Rattle.event.specs.declared.refusal.Refusal.{Refusal}
 use Rattle.event.specs.declared.refusal.Refusal.the-variants as refusal
 
@@ -22,3 +22,7 @@ refusalNumber refusal.Mark = 7
 refusalNumber refusal.Pins = 8
 -- "input above 65,536 bytes"
 refusalNumber refusal.Long = 9
+
+-- where an answer is one number, a refusal's number stands above all replies
+abbrev pub refusedAnswer : ℕ → ℕ
+refusedAnswer number = 512 + number

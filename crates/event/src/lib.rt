@@ -7,3 +7,4 @@ pub use events::Made;
 pub use events::Touch;
 pub use events::event_of;
 pub use refusal::Refusal;
+pub use refusal::refused_answer;

@@ -1,6 +1,9 @@
 // Why an event, a number or a whole input is refused.
 ghost use mathlib.Core.Path.{_≡_};
-ghost use Rattle.event.specs.Refusals.{refusalNumber};
+ghost use Rattle.event.specs.Refusals.{refusalNumber, refusedAnswer};
+
+// What a refusal's number is added to where an answer is one number.
+const REFUSED: u32 = 512;
 
 pub enum Refusal {
     Number,
@@ -31,4 +34,11 @@ impl Refusal {
             Refusal::Long => 9,
         }
     }
+}
+
+// The number of a refusal where an answer is one number, above all replies.
+pub fn refused_answer(number: u8) -> u32
+    ensures { λ r. ⌜ r ≡ refusedAnswer number ⌝ }
+{
+    REFUSED + (number as u32)
 }

@@ -1,6 +1,6 @@
 -- Definitions: "The writer gives an event's bytes, five at most, with their count, places past the count 0; for a refused
 -- event none, a count of 0 and the refusal number."
-use Prim.Native.Nat.{ℕ, _+_, _-_}
+use Prim.Native.Nat.{ℕ, _-_}
 use mathlib.Core.Path.{_≡_}
 use mathlib.Core.Bool.{Bool}
 use mathlib.Core.List.{List, [], _++_}
@@ -10,7 +10,7 @@ use Rattle.bits.specs.Choice.{pick}
 use Rattle.event.specs.declared.events.Event.{Event}
 use Rattle.event.specs.declared.events.Made.{Made}
 use Rattle.event.specs.declared.events.Made.the-variants as made
-use Rattle.event.specs.Refusals.{refusalNumber}
+use Rattle.event.specs.Refusals.{refusalNumber, refusedAnswer}
 use Rattle.event.specs.Events.{operandCount, Numbers, numbersOf}
 use Rattle.file.specs.declared.writing.Written.{Written}
 use Rattle.file.specs.Numbers.{groups}
@@ -47,7 +47,7 @@ fitsIn e room = leb (length (bytesOf e)) room
 -- the answer: their count, 0 where they don't fit, 512 and the refusal number for a refused event
 unfoldable pub putAnswer : Made → ℕ → ℕ
 putAnswer (made.Event e) room = pick (fitsIn e room) (length (bytesOf e)) 0
-putAnswer (made.Refused r) room = 512 + refusalNumber r
+putAnswer (made.Refused r) room = refusedAnswer (refusalNumber r)
 
 -- the buffer afterwards: what stands behind them is as it was, and all of it where none are put
 unfoldable pub putInto : Made → List ℕ → List ℕ

@@ -3,6 +3,7 @@ use event::Event;
 use event::Made;
 use event::Touch;
 use event::event_of;
+use event::refused_answer;
 ghost use mathlib.Core.Path.{_≡_};
 ghost use mathlib.Core.List.{_++_};
 ghost use Prim.Native.Nat.{_≤_};
@@ -12,9 +13,6 @@ ghost use Rattle.file.specs.Writing.{wholeOf, writtenOf, Put};
 
 // The least number that takes two groups.
 const TWO_GROUPS: u8 = 128;
-
-// What a refusal's number is added to where the answer is one number.
-const REFUSED: u32 = 512;
 
 // The bytes with their count, places past the count 0, and 0 for the refusal; of a refused event no byte, and its number.
 pub struct Written {
@@ -96,7 +94,7 @@ pub fn put_event(out: &mut [u8], kind: u64, x: u64, y: u64, z: u64) -> u32
 {
     let written = write(kind, x, y, z);
     if written.refusal != 0 {
-        return REFUSED + (written.refusal as u32);
+        return refused_answer(written.refusal);
     }
     let count = written.count as usize;
     if out.len() < count {

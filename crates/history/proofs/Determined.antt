@@ -23,6 +23,7 @@ use Rattle.text.proofs.put_line.Reads as text-put-line
 use Rattle.event.proofs.event_of.Reads as event-of
 use Rattle.event.proofs.events.Event.judged.Reads as event-judged
 use Rattle.event.proofs.refusal.Refusal.number.Reads as event-refusal-number
+use Rattle.event.proofs.refused_answer.Reads as event-refused-answer
 use Rattle.file.proofs.read_at.Reads as file-read-at
 use Rattle.file.proofs.write.Reads as file-write
 use Rattle.file.proofs.put_event.Reads as file-put-event
@@ -157,6 +158,9 @@ event-judged-determined = by-equation (λ a r s h. h)
 
 pub event-refusal-number-determined : Determined (event-refusal-number.Post tt)
 event-refusal-number-determined = by-equation (λ a r s h. h)
+
+pub event-refused-answer-determined : Determined (event-refused-answer.Post tt)
+event-refused-answer-determined = by-equation (λ a r s h. h)
 
 -- at any lifetime of the input
 pub file-read-at-determined : (κs : Lfts 1) → Determined (file-read-at.Post κs)

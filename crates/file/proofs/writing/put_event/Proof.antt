@@ -1,4 +1,4 @@
-use Prim.Native.Nat.{ℕ, _+_, _<_, _≤_}
+use Prim.Native.Nat.{ℕ, _<_, _≤_}
 use native.Mathlib.Omega.{arith}
 use mathlib.Core.Path.{_≡_, refl, ap}
 use mathlib.Core.List.{List, _++_}
@@ -8,6 +8,7 @@ use borrow.Author.Needs.{needs}
 use borrow.Author.Tests.{le-leb, lt-leb}
 use Rattle.event.specs.declared.events.Made.{Made}
 use Rattle.event.specs.declared.events.Made.the-variants as made
+use Rattle.event.specs.Refusals.{refusedAnswer}
 use Rattle.event.specs.Events.{eventOf}
 use Rattle.event.specs.Laws.{refusal-some}
 use Rattle.file.specs.declared.writing.Written.{Written}
@@ -18,7 +19,7 @@ use Rattle.file.proofs.writing.put_event.Tie as tie
 
 -- what is answered and left of a buffer, by what was written of an event
 module _ (out : List ℕ) where
-  refused : (m : Made) (w : Written) → w ≡ writtenOf m → (w .refusal ≡ 0 → ⊥) → Put out m out (512 + w .refusal)
+  refused : (m : Made) (w : Written) → w ≡ writtenOf m → (w .refusal ≡ 0 → ⊥) → Put out m out (refusedAnswer (w .refusal))
   unfolding writtenOf wholeOf padded putAnswer putInto
   refused (made.Event e) w is some = absurd (some (ap (λ (x : Written). x .refusal) is))
   refused (made.Refused r) w is some = (rw is, refl)
@@ -44,14 +45,11 @@ five kind x y z w is = rw is (written-five-at-most kind x y z .1)
 write-requires : tie.Need-write-requires
 write-requires c κs = search needs
 
-cast-result : tie.Need-cast-result
-cast-result c = search needs
-
-add-result : tie.Need-add-result
-add-result c = search needs
+refused-answer-requires : tie.Need-refused-answer-requires
+refused-answer-requires c κs = search needs
 
 returns : tie.Need-returns
-returns c = refused _ _ _ (c .before .before .before .write .ensures) (c .before .if1 .taken)
+returns c = rw (c .refused-answer .ensures) (refused _ _ _ (c .before .before .before .write .ensures) (c .before .if1 .taken))
 
 cast-count : tie.Need-cast-count
 cast-count c = search needs
@@ -62,8 +60,8 @@ returns-2 c = too-long _ _ _ (c .before .before .before .before .write .ensures)
 put-front-requires : tie.Need-put-front-requires
 put-front-requires c κs = (five _ _ _ _ _ (c .before .before .before .before .before .before .write .ensures), c .before .before .if2 .left)
 
-cast-result-2 : tie.Need-cast-result-2
-cast-result-2 c = search needs
+cast-result : tie.Need-cast-result
+cast-result c = search needs
 
 same-length : tie.Need-same-length
 same-length c = search needs
@@ -76,12 +74,11 @@ put-event-spec =
     tie.close
     (tie.spec
     write-requires
-    cast-result
-    add-result
+    refused-answer-requires
     returns
     cast-count
     returns-2
     put-front-requires
-    cast-result-2
+    cast-result
     same-length
     returns-3)

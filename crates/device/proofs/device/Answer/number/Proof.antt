@@ -15,11 +15,8 @@ enum-known-self-2 c = search needs
 number-requires : tie.Need-number-requires
 number-requires c κs = search needs
 
-cast-result-2 : tie.Need-cast-result-2
-cast-result-2 c = search needs
-
-add-result : tie.Need-add-result
-add-result c = search needs
+refused-answer-requires : tie.Need-refused-answer-requires
+refused-answer-requires c κs = search needs
 
 returns : tie.Need-returns
 unfolding answerNumber
@@ -27,7 +24,7 @@ returns c = simp (c .before .self .given .1)
 
 returns-2 : tie.Need-returns-2
 unfolding answerNumber
-returns-2 c = simp (c .number .ensures, c .before .before .self2 .given .1)
+returns-2 c = simp (c .refused-answer .ensures, c .before .number .ensures, c .before .before .before .self2 .given .1)
 
 pub number-spec : {M : Type 1} → statement M
 number-spec =
@@ -37,7 +34,6 @@ number-spec =
     cast-result
     enum-known-self-2
     number-requires
-    cast-result-2
-    add-result
+    refused-answer-requires
     returns
     returns-2)
