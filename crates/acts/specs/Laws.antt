@@ -7,8 +7,8 @@ use mathlib.Core.Bool.{Bool, false}
 use borrow.Author.Tests.{not-false}
 use Rattle.bits.specs.Choice.{pick-by}
 use Rattle.bits.specs.Laws.{flag-in}
-use Rattle.queue.specs.Queue.{Fits, changed}
-use Rattle.queue.specs.Laws.{oldest-byte-below, ChangeIn, moved-in, fits-moved}
+use Rattle.queue.specs.Queue.{changed}
+use Rattle.queue.specs.Laws.{oldest-byte-below, ChangeIn, moved-in}
 use Rattle.event.specs.declared.events.Touch.{Touch}
 use Rattle.event.specs.declared.events.Touch.the-variants as touch
 use Rattle.event.specs.Events.{TouchIn}
@@ -29,10 +29,10 @@ use Rattle.channel.specs.declared.channel.Channel.{Channel}
 use Rattle.channel.specs.declared.state.State.{State}
 use Rattle.channel.specs.State.{LinesIn, withLine}
 use Rattle.channel.specs.Channel.{WellFormed, rtsAsserted, shownAt}
-use Rattle.channel.specs.Settle.{settledOf, afterStep}
-use Rattle.channel.specs.Laws.{with-line-in, with-shift-in, with-modem-in, with-flags-in, ActIn, StepIn, settled-in, well-formed-stepped, read-fits}
+use Rattle.channel.specs.Settle.{ActIn, StepIn, settledOf, afterStep}
+use Rattle.channel.specs.Laws.{with-line-in, with-shift-in, with-modem-in, with-flags-in, settled-in, well-formed-stepped, read-fits}
 use Rattle.acts.specs.Touches.{settingBy, settingsAfter, receiveChange, sentBy, transmitChange, resetsBy}
-use Rattle.acts.specs.Acts.{received, sentChange, sent, actWith, writeAct, readAct, arrivalAct, slotAct, pinsAct, quietAct, lookAct, actOf}
+use Rattle.acts.specs.Acts.{received, sentChange, actWith, writeAct, readAct, arrivalAct, slotAct, pinsAct, quietAct, lookAct, actOf}
 use Rattle.acts.specs.Step.{stepAt, touchedBy}
 
 -- ---- what every act has of the stored registers
@@ -59,16 +59,6 @@ module _ (ch : Channel) (t : Touch) where
   pub step-rx : stepAt ch t .rx ≡ received ch t
   unfolding stepAt settledOf actWith
   step-rx = ap (λ act. act .rx) (act-shared ch t)
-
-  step-tx : stepAt ch t .tx ≡ sent ch t
-  unfolding stepAt settledOf actWith
-  step-tx = ap (λ act. act .tx) (act-shared ch t)
-
-  pub rx-fits : Fits (stepAt ch t .rx)
-  rx-fits = rw step-rx (fits-moved (ch .rx) (receiveChange (ch .settings) t) (roomOf (ch .settings)))
-
-  pub tx-fits : Fits (stepAt ch t .tx)
-  tx-fits = rw step-tx (fits-moved (ch .tx) (sentChange ch t) transmitRoom)
 
   -- where no register is set, each holds what it held
   pub none-set : stepAt ch t .sets ≡ false → stepAt ch t .settings ≡ ch .settings

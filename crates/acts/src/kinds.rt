@@ -15,6 +15,7 @@ use registers::Register;
 use registers::Setting;
 use registers::resets_device;
 ghost use mathlib.Core.Path.{_≡_};
+ghost use Prim.Native.Nat.{_<_};
 ghost use Rattle.queue.specs.Queue.{movedBy};
 ghost use Rattle.event.specs.Events.{TouchIn};
 ghost use Rattle.lines.specs.Transmit.{transmitRoom};
@@ -132,6 +133,7 @@ fn slot(channel: Channel) -> Act
 
 // New values of the modem pins.
 fn pins(channel: Channel, value: u8) -> Act
+    requires { ⌜ value < 16 ⌝ }
     ensures { λ r. ⌜ r ≡ pinsAct channel value ⌝ }
 {
     let modem = channel.state.modem;

@@ -3,10 +3,9 @@
 use Prim.Native.Nat.{_<_, _≤_}
 use native.Mathlib.Omega.{arith}
 use mathlib.Core.Bool.{Bool}
-use Rattle.queue.specs.Laws.{MovedIn, queue-after, bytes-after, marks-after, oldest-byte-below, oldest-mark-below}
+use Rattle.queue.specs.Laws.{queue-after, bytes-after, marks-after, oldest-byte-below, oldest-mark-below}
 use Rattle.registers.specs.declared.register.Register.{Register}
 use Rattle.registers.specs.declared.register.Register.the-variants as register
-use Rattle.registers.specs.Bounds.{SettingIn, SettingsIn}
 use Rattle.registers.specs.Laws.{settings-in}
 use Rattle.receiver.specs.declared.line.Line.{Line}
 use Rattle.receiver.specs.Laws.{lsr-fits}
@@ -24,7 +23,7 @@ use Rattle.channel.specs.declared.channel.Channel.{Channel}
 use Rattle.channel.specs.declared.state.State.{State}
 use Rattle.channel.specs.State.{LinesIn, withLine, withShift, withModem, withFlags, withLatch}
 use Rattle.channel.specs.Channel.{WellFormed, statusOf, readOf}
-use Rattle.channel.specs.Settle.{settledOf, afterStep}
+use Rattle.channel.specs.Settle.{ActIn, StepIn, settledOf, afterStep}
 
 -- ---- the lines with one of them anew
 module _ (s : State) (ok : LinesIn s) where
@@ -48,21 +47,7 @@ module _ (s : State) (ok : LinesIn s) where
   unfolding withLatch
   with-latch-in latch = record { quiet-in = ok .quiet-in; shift-in = ok .shift-in; modem-in = ok .modem-in }
 
--- ---- an act and a step within their bounds: a reply is a byte or 256
-pub record ActIn (act : Act) : Type 0 where
-  pub setting-in : SettingIn (act .setting)
-  pub lines-in : LinesIn (act .state)
-  pub rx-in : MovedIn (act .rx)
-  pub tx-in : MovedIn (act .tx)
-  pub reply-in : act .reply ≤ 256
-
-pub record StepIn (step : Step) : Type 0 where
-  pub settings-in : SettingsIn (step .settings)
-  pub lines-in : LinesIn (step .state)
-  pub rx-in : MovedIn (step .rx)
-  pub tx-in : MovedIn (step .tx)
-  pub reply-in : step .reply ≤ 256
-
+-- ---- an act with what settles after it
 pub settled-in : (ch : Channel) (act : Act) → WellFormed ch → ActIn act → StepIn (settledOf ch act)
 unfolding settledOf
 settled-in ch act ok h =

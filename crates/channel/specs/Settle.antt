@@ -1,12 +1,14 @@
 -- Definitions: ".. the latch, the RTS flag, the THR flag": what an act comes to with what settles after it, and the channel
 -- afterwards.
+use Prim.Native.Nat.{_≤_}
 use mathlib.Core.Bool.{Bool, not}
-use Rattle.queue.specs.Queue.{afterOf}
+use Rattle.queue.specs.Queue.{MovedIn, afterOf}
 use Rattle.registers.specs.declared.levels.Spaces.{Spaces}
 use Rattle.registers.specs.declared.register.Register.the-variants as register
 use Rattle.registers.specs.declared.settings.Settings.{Settings}
 use Rattle.registers.specs.Windows.{same}
 use Rattle.registers.specs.Writes.{withSetting}
+use Rattle.registers.specs.Bounds.{SettingIn, SettingsIn}
 use Rattle.lines.specs.declared.transmit.Shift.{Shift}
 use Rattle.lines.specs.Transmit.{spacesOf, isBusy, thrCondition}
 use Rattle.lines.specs.Rts.{latchAfter, rtsOf}
@@ -15,8 +17,23 @@ use Rattle.interrupts.specs.Flags.{flagsSettled}
 use Rattle.channel.specs.declared.settle.Act.{Act}
 use Rattle.channel.specs.declared.channel.Channel.{Channel}
 use Rattle.channel.specs.declared.settle.Step.{Step}
-use Rattle.channel.specs.State.{withFlags, withLatch}
+use Rattle.channel.specs.State.{LinesIn, withFlags, withLatch}
 use Rattle.channel.specs.Channel.{freeAt}
+
+-- an act and a step within their bounds: a reply is a byte or 256
+pub record ActIn (act : Act) : Type 0 where
+  pub setting-in : SettingIn (act .setting)
+  pub lines-in : LinesIn (act .state)
+  pub rx-in : MovedIn (act .rx)
+  pub tx-in : MovedIn (act .tx)
+  pub reply-in : act .reply ≤ 256
+
+pub record StepIn (step : Step) : Type 0 where
+  pub settings-in : SettingsIn (step .settings)
+  pub lines-in : LinesIn (step .state)
+  pub rx-in : MovedIn (step .rx)
+  pub tx-in : MovedIn (step .tx)
+  pub reply-in : step .reply ≤ 256
 
 -- RTS and the THR condition
 unfoldable pub momentOf : Settings → Bool → Shift → Spaces → Moment

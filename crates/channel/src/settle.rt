@@ -14,11 +14,8 @@ use registers::Setting;
 use registers::Settings;
 use registers::Spaces;
 ghost use mathlib.Core.Path.{_≡_};
-ghost use Prim.Native.Nat.{_≤_};
-ghost use Rattle.queue.specs.Queue.{Fits};
-ghost use Rattle.lines.specs.Transmit.{transmitRoom};
 ghost use Rattle.channel.specs.Channel.{WellFormed};
-ghost use Rattle.channel.specs.Settle.{momentOf, momentAt, settledOf, afterStep};
+ghost use Rattle.channel.specs.Settle.{ActIn, StepIn, momentOf, momentAt, settledOf, afterStep};
 
 // The register that is set, the lines and what becomes of each queue; the reply, and whether the device is reset.
 pub struct Act {
@@ -67,7 +64,7 @@ impl Channel {
 
     // What an act comes to with what is settled after it.
     pub fn settled(self, act: Act) -> Step
-        requires { ⌜ WellFormed self × (act .tx .count ≤ transmitRoom) ⌝ }
+        requires { ⌜ WellFormed self × ActIn act ⌝ }
         ensures { λ r. ⌜ r ≡ settledOf self act ⌝ }
     {
         let setting = act.setting;
@@ -92,7 +89,7 @@ impl Channel {
 
     // The channel by value after a step.
     pub fn after(self, step: Step) -> Channel
-        requires { ⌜ Fits (step .rx) × Fits (step .tx) ⌝ }
+        requires { ⌜ StepIn step ⌝ }
         ensures { λ r. ⌜ r ≡ afterStep self step ⌝ }
     {
         let settings = step.settings;

@@ -5,6 +5,7 @@ use bits::joined;
 use registers::Register;
 use registers::Settings;
 ghost use mathlib.Core.Path.{_≡_};
+ghost use Prim.Native.Nat.{_<_};
 ghost use Rattle.lines.specs.Modem.{ModemIn, ctsAsserted, ctsOff, pinsChanged, modemRead, msrOf};
 
 #[repr(C)]
@@ -29,6 +30,7 @@ impl Modem {
 
     // With new pin values.
     pub fn changed(self, value: u8) -> Modem
+        requires { ⌜ value < 16 ⌝ }
         ensures { λ r. ⌜ r ≡ pinsChanged self value ⌝ }
     {
         Modem {

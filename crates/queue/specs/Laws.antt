@@ -17,7 +17,7 @@ use Rattle.queue.specs.declared.Character.{Character}
 use Rattle.queue.specs.declared.Queue.{Queue}
 use Rattle.queue.specs.declared.Moved.{Moved}
 use Rattle.queue.specs.Change.{Change, Add, Take, Clear, Stay}
-use Rattle.queue.specs.Queue.{WellFormed, Below, Fits, none, emptyQueue, oldestOf, markedFrom, anyMarkOf, addsTo, takesFrom, clearsAll, staysAs, movedBy, putInto, afterOf, changed}
+use Rattle.queue.specs.Queue.{WellFormed, Below, CharacterIn, Fits, MovedIn, none, emptyQueue, oldestOf, markedFrom, anyMarkOf, addsTo, takesFrom, clearsAll, staysAs, movedBy, putInto, afterOf, changed}
 use Rattle.queue.specs.List.{charAt, itemsFrom, items, someMark, listAfter}
 
 -- ---- the length is the count
@@ -186,24 +186,12 @@ module _ (bound : ℕ) where
 
 -- ---- what becomes of a queue
 -- the place that is written is one of the 64
-pub fits-moved : (q : Queue) (a : Change) (room : ℕ) → Fits (movedBy q a room)
+fits-moved : (q : Queue) (a : Change) (room : ℕ) → Fits (movedBy q a room)
 unfolding movedBy addsTo takesFrom clearsAll staysAs
 fits-moved q (Add c) room = omega arith
 fits-moved q Take room = omega arith
 fits-moved q Clear room = omega arith
 fits-moved q Stay room = omega arith
-
--- a character within its bounds: a byte, and a mark that is a sum of 1, 2 and 4
-pub record CharacterIn (c : Character) : Type 0 where
-  pub byte-in : c .byte < 256
-  pub mark-in : c .mark < 8
-
--- what becomes of a queue within the bounds of one
-pub record MovedIn (m : Moved) : Type 0 where
-  pub start-in : m .start < 64
-  pub count-in : m .count ≤ 64
-  pub place-in : Fits m
-  pub character-in : CharacterIn (m .character)
 
 -- a character that is offered is within its bounds
 abbrev pub ChangeIn : Change → Type 0

@@ -23,9 +23,21 @@ pub record WellFormed (q : Queue) : Type 0 where
 unfoldable pub Below : ℕ → List ℕ → Type 0
 Below bound places = (place : ℕ) → getD places place 0 < bound
 
+-- a character within its bounds: a byte, and a mark that is a sum of 1, 2 and 4
+pub record CharacterIn (c : Character) : Type 0 where
+  pub byte-in : c .byte < 256
+  pub mark-in : c .mark < 8
+
 -- a place that is written is one of the 64
 abbrev pub Fits : Moved → Type 0
 Fits m = m .place < 64
+
+-- what becomes of a queue within the bounds of one
+pub record MovedIn (m : Moved) : Type 0 where
+  pub start-in : m .start < 64
+  pub count-in : m .count ≤ 64
+  pub place-in : Fits m
+  pub character-in : CharacterIn (m .character)
 
 -- the character that stands for none
 abbrev pub none : Character

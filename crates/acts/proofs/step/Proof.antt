@@ -8,7 +8,7 @@ act-requires : tie.Need-act-requires
 act-requires c κs = search needs
 
 settled-requires : tie.Need-settled-requires
-settled-requires c κs = (c .before .pre .0, rw (c .act .ensures) (act-in _ (c .before .pre .0) _ (c .before .pre .1) .tx-in .count-in))
+settled-requires c κs = (c .before .pre .0, rw (c .act .ensures) (act-in _ (c .before .pre .0) _ (c .before .pre .1)))
 
 returns : tie.Need-returns
 unfolding stepAt

@@ -31,7 +31,7 @@ enum-known-touch-4 : tie.Need-enum-known-touch-4
 enum-known-touch-4 c = search needs
 
 pins-requires : tie.Need-pins-requires
-pins-requires c κs = search needs
+pins-requires c κs = rw (c .before .touch4 .given .1) at (c .before .before .before .pre .1)
 
 enum-told-2 : tie.Need-enum-told-2
 enum-told-2 c = search needs

@@ -45,7 +45,7 @@ use Rattle.channel.specs.declared.settle.Step.{Step}
 use Rattle.channel.specs.Channel.{WellFormed}
 use Rattle.channel.specs.Settle.{afterStep}
 use Rattle.acts.specs.Step.{stepAt, touchedBy}
-use Rattle.acts.specs.Laws.{rx-fits, tx-fits}
+use Rattle.acts.specs.Laws.{step-in}
 use Rattle.channel.proofs.channel.Channel as K
 use Rattle.channel.proofs.settle.Step as S
 use Rattle.channel.proofs.settle.Step.Laws as S′
@@ -143,10 +143,10 @@ module _ {M : Type 1} (𝓤 : URA M) (H : Heap 𝓤) (A : Atoms 𝓤) (W : Given
       (λ z. and-then ! (own ! 4 tt refl) (and-then ! (own ! 2 tt refl) (no-more !))) tt refl (λ given.
       stores ! state state-data (step y .state) (parts _ given .1 .1 .0) (of-opd ! (own-field ! 3 2 tt refl tt tt)) tt refl refl $
       takes ! Q.the-row 26 tt refl refl tt (tt, tt) $
-      calls ! fm nothing tt (settles-in rx _ (step y .rx) (rx-fits (y .x) (y .a .0)) (parts _ given .1 .1 .1 .0) (y .b) (y .o))
+      calls ! fm nothing tt (settles-in rx _ (step y .rx) (step-in (y .x) (wf .0) (y .a .0) (wf .1) .rx-in .place-in) (parts _ given .1 .1 .1 .0) (y .b) (y .o))
       (λ z. and-then ! (own ! 6 tt refl) (and-then ! (own-field ! 3 3 tt refl tt tt) (no-more !))) tt refl (λ _.
       takes ! Q.the-row 156 tt refl refl tt (tt, tt) $
-      calls ! fm nothing tt (settles-in tx _ (step y .tx) (tx-fits (y .x) (y .a .0)) (parts _ given .1 .1 .1 .1 .0) (y .b) (y .o))
+      calls ! fm nothing tt (settles-in tx _ (step y .tx) (step-in (y .x) (wf .0) (y .a .0) (wf .1) .tx-in .place-in) (parts _ given .1 .1 .1 .1 .0) (y .b) (y .o))
       (λ z. and-then ! (own ! 7 tt refl) (and-then ! (own-field ! 3 4 tt refl tt tt) (no-more !))) tt refl (λ _.
       lets ! (of-opd ! (own-field ! 3 0 tt refl tt tt)) tt (tt, tt) $ forks ! (step y .sets) tt refl
       (λ _. stores-end ! settings settings-data (step y .settings) (parts _ given .1 .0)

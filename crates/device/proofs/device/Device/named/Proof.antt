@@ -1,5 +1,5 @@
 use borrow.Author.Needs.{needs}
-use Rattle.acts.specs.Laws.{rx-fits, tx-fits}
+use Rattle.acts.specs.Laws.{step-in}
 use Rattle.device.specs.declared.side.Side.the-variants as side
 use Rattle.device.specs.Laws.{named-in-turn}
 use Rattle.device.proofs.device.Device.named.Statement.{statement}
@@ -12,7 +12,7 @@ step-requires : tie.Need-step-requires
 step-requires c κs = search needs
 
 after-requires : tie.Need-after-requires
-after-requires c κs = (rw (c .step .ensures) (rx-fits _ _), rw (c .step .ensures) (tx-fits _ _))
+after-requires c κs = rw (c .step .ensures) (step-in _ (c .before .before .before .pre .0 .a-in) _ (c .before .before .before .pre .1))
 
 given-requires : tie.Need-given-requires
 given-requires c κs = search needs
@@ -24,7 +24,7 @@ step-requires-2 : tie.Need-step-requires-2
 step-requires-2 c κs = search needs
 
 after-requires-2 : tie.Need-after-requires-2
-after-requires-2 c κs = (rw (c .step2 .ensures) (rx-fits _ _), rw (c .step2 .ensures) (tx-fits _ _))
+after-requires-2 c κs = rw (c .step2 .ensures) (step-in _ (c .before .before .before .pre .0 .b-in) _ (c .before .before .before .pre .1))
 
 given-requires-2 : tie.Need-given-requires-2
 given-requires-2 c κs = search needs
