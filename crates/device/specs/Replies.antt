@@ -1,21 +1,17 @@
 -- Laws: a reply is at most 256, so that the number of an answer tells it: a reply's is below 512, and a refusal's is above.
 use Prim.Native.Nat.{ℕ, _<_, _≤_}
 use native.Mathlib.Omega.{arith}
-use mathlib.Core.Path.{_≡_, refl, sym, ap, _∙_}
-use mathlib.Core.List.{List, [], _∷_}
-use lib.ListN.{getD}
+use mathlib.Core.Path.{_≡_, ap}
 use Rattle.bits.specs.Choice.{pick-by}
 use Rattle.bits.specs.Laws.{flag-in}
 use Rattle.event.specs.declared.refusal.Refusal.{Refusal}
-use Rattle.event.specs.declared.refusal.Refusal.the-variants as refusal
 use Rattle.event.specs.declared.events.Event.{Event}
 use Rattle.event.specs.declared.events.Event.the-variants as event
 use Rattle.event.specs.declared.events.Made.{Made}
 use Rattle.event.specs.declared.events.Made.the-variants as made
 use Rattle.event.specs.declared.events.Touch.{Touch}
-use Rattle.event.specs.Refusals.{refusalNumber}
 use Rattle.event.specs.Events.{TouchIn, InRange}
-use Rattle.event.specs.Laws.{refusal-some}
+use Rattle.event.specs.Laws.{refusal-some, refusal-is}
 use Rattle.acts.specs.Touches.{resetsBy}
 use Rattle.acts.specs.Laws.{step-in}
 use Rattle.device.specs.declared.side.Side.{Side}
@@ -57,25 +53,6 @@ reply-below reply h = omega arith
 pub refusal-above : (r : Refusal) → 512 < answerNumber (answer.Refused r)
 unfolding answerNumber
 refusal-above r = omega (arith, refusal-some r)
-
-abbrev byNumber : List Refusal
-byNumber =
-    refusal.Long ∷ refusal.Number ∷ refusal.Short ∷ refusal.Kind ∷ refusal.Channel ∷ refusal.Address ∷ refusal.Byte ∷ refusal.Mark
-    ∷ refusal.Pins ∷ []
-
-found-by-number : (r : Refusal) → r ≡ getD byNumber (refusalNumber r) refusal.Long
-found-by-number refusal.Number = refl
-found-by-number refusal.Short = refl
-found-by-number refusal.Kind = refl
-found-by-number refusal.Channel = refl
-found-by-number refusal.Address = refl
-found-by-number refusal.Byte = refl
-found-by-number refusal.Mark = refl
-found-by-number refusal.Pins = refl
-found-by-number refusal.Long = refl
-
-refusal-is : (r q : Refusal) → refusalNumber r ≡ refusalNumber q → r ≡ q
-refusal-is r q same = found-by-number r ∙ ap (λ (n : ℕ). getD byNumber n refusal.Long) same ∙ sym (found-by-number q)
 
 number-tells : (x y : Answer) → AnswerIn x → AnswerIn y → answerNumber x ≡ answerNumber y → x ≡ y
 unfolding answerNumber

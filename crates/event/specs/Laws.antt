@@ -1,8 +1,11 @@
--- Laws: what plain numbers come to, and that an event in range is the one that its own numbers make.
+-- Laws: refusals told apart by their numbers, what plain numbers come to, and that an event in range is the one that its own numbers
+-- make.
 use Prim.Native.Nat.{ℕ, _<_, _≤_}
 use native.Mathlib.Omega.{arith}
-use mathlib.Core.Path.{_≡_, refl}
+use mathlib.Core.Path.{_≡_, refl, sym, ap, _∙_}
 use mathlib.Core.Bool.{Bool}
+use mathlib.Core.List.{List, [], _∷_}
+use lib.ListN.{getD}
 use lib.Dec.{eqb, ltb}
 use borrow.Author.Tests.{le-ltb, eqb-true, eqb-false, ltb-true, ltb-false}
 use Rattle.bits.specs.Choice.{pick, pick-by}
@@ -17,7 +20,7 @@ use Rattle.event.specs.declared.events.Made.the-variants as made
 use Rattle.event.specs.Refusals.{refusalNumber}
 use Rattle.event.specs.Events.{operandCount, onChannel, eventOf, Numbers, numbersOf, judgedOf, InRange}
 
--- no refusal has the number 0
+-- ---- no refusal has the number 0
 pub refusal-some : (r : Refusal) → 0 < refusalNumber r
 refusal-some refusal.Number = omega arith
 refusal-some refusal.Short = omega arith
@@ -28,6 +31,26 @@ refusal-some refusal.Byte = omega arith
 refusal-some refusal.Mark = omega arith
 refusal-some refusal.Pins = omega arith
 refusal-some refusal.Long = omega arith
+
+-- and two of one number are one
+abbrev byNumber : List Refusal
+byNumber =
+    refusal.Long ∷ refusal.Number ∷ refusal.Short ∷ refusal.Kind ∷ refusal.Channel ∷ refusal.Address ∷ refusal.Byte ∷ refusal.Mark
+    ∷ refusal.Pins ∷ []
+
+found-by-number : (r : Refusal) → r ≡ getD byNumber (refusalNumber r) refusal.Long
+found-by-number refusal.Number = refl
+found-by-number refusal.Short = refl
+found-by-number refusal.Kind = refl
+found-by-number refusal.Channel = refl
+found-by-number refusal.Address = refl
+found-by-number refusal.Byte = refl
+found-by-number refusal.Mark = refl
+found-by-number refusal.Pins = refl
+found-by-number refusal.Long = refl
+
+pub refusal-is : (r q : Refusal) → refusalNumber r ≡ refusalNumber q → r ≡ q
+refusal-is r q same = found-by-number r ∙ ap (λ (n : ℕ). getD byNumber n refusal.Long) same ∙ sym (found-by-number q)
 
 -- the numbers that are looked at: 0 for the operands that the kind lacks
 abbrev pub lookedAt : Numbers → Numbers

@@ -12,7 +12,7 @@ use Rattle.queue.specs.declared.Character.{Character}
 use Rattle.queue.specs.Change.{Change, Add, Take, Stay}
 use Rattle.queue.specs.Queue.{none, movedBy, oldestOf}
 use Rattle.queue.specs.List.{items, someMark}
-use Rattle.queue.specs.Laws.{length-items, added-kept, oldest-head, oldest-mark-below, any-mark-items}
+use Rattle.queue.specs.Laws.{length-items, added-kept, oldest-head, any-mark-items}
 use Rattle.event.specs.declared.events.Event.the-variants as event
 use Rattle.event.specs.declared.events.Touch.{Touch}
 use Rattle.event.specs.declared.events.Touch.the-variants as touch
@@ -29,6 +29,7 @@ use Rattle.receiver.specs.Line.{fateNumber, lsrOf}
 use Rattle.interrupts.specs.declared.interrupt.Interrupt.{Interrupt}
 use Rattle.channel.specs.declared.channel.Channel.{Channel}
 use Rattle.channel.specs.Channel.{WellFormed, shownAt, statusOf, readOf}
+use Rattle.channel.specs.Laws.{mark-shown-in}
 use Rattle.acts.specs.Touches.{arrivedCharacter, receiveChange, resetsBy}
 use Rattle.acts.specs.Acts.{received, actWith, readAct, arrivalAct, actOf}
 use Rattle.channel.specs.Settle.{settledOf}
@@ -137,18 +138,14 @@ module _ (ch : Channel) (ok : WellFormed ch) (shown : Interrupt) where
   unfolding readOf
   rxlvl-read = sym (length-items (ch .rx))
 
-  mark-in : statusOf ch .mark < 8
-  unfolding statusOf
-  mark-in = oldest-mark-below 8 (ch .rx) (omega arith) (ok .marks-in)
-
   pub lsr-marks-read : partAt (readOf ch register.Lsr shown) 2 3 ≡ getD (items (ch .rx)) 0 none .mark
   unfolding readOf statusOf
-  lsr-marks-read = lsr-marks (statusOf ch) mark-in ∙ ap (λ (c : Character). c .mark) (oldest-head (ch .rx) (ok .rx-in))
+  lsr-marks-read = lsr-marks (statusOf ch) (mark-shown-in ch ok) ∙ ap (λ (c : Character). c .mark) (oldest-head (ch .rx) (ok .rx-in))
 
   pub lsr-ready-read : bitAt (readOf ch register.Lsr shown) 0 ≡ not (eqb (length (items (ch .rx))) 0)
   unfolding readOf statusOf
-  lsr-ready-read = lsr-ready (statusOf ch) mark-in ∙ ap (λ (n : ℕ). not (eqb n 0)) (sym (length-items (ch .rx)))
+  lsr-ready-read = lsr-ready (statusOf ch) (mark-shown-in ch ok) ∙ ap (λ (n : ℕ). not (eqb n 0)) (sym (length-items (ch .rx)))
 
   pub lsr-error-read : bitAt (readOf ch register.Lsr shown) 7 ≡ someMark (items (ch .rx))
   unfolding readOf statusOf
-  lsr-error-read = lsr-error (statusOf ch) mark-in ∙ any-mark-items (ch .rx)
+  lsr-error-read = lsr-error (statusOf ch) (mark-shown-in ch ok) ∙ any-mark-items (ch .rx)
