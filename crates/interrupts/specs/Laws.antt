@@ -14,13 +14,24 @@ use Rattle.interrupts.specs.declared.interrupt.Interrupt.the-variants as
 use Rattle.interrupts.specs.Interrupts.{codeOf, iirOf}
 use Rattle.interrupts.specs.Flags.{thrSettled, flagsSettled}
 
-pub thr-in-one : (flag before after : Bool) → after && (flag || not before) ≡ thrSettled flag before after
+thr-in-one : (flag before after : Bool) → after && (flag || not before) ≡ thrSettled flag before after
 unfolding thrSettled
 thr-in-one flag before false = refl
 thr-in-one true true true = refl
 thr-in-one true false true = refl
 thr-in-one false true true = refl
 thr-in-one false false true = refl
+
+pub flags-in-one : (f : Flags) (before after : Moment)
+    → record {
+      special = f .special;
+      cts = f .cts;
+      rts = f .rts || before .rts && not (after .rts);
+      thr = after .thr && (f .thr || not (before .thr));
+    }
+    ≡ flagsSettled f before after
+unfolding flagsSettled
+flags-in-one f before after = rw (thr-in-one (f .thr) (before .thr) (after .thr))
 
 -- "clears if it is false": a flag that stands after an event has its condition
 pub thr-has-condition : (flag before after : Bool) → thrSettled flag before after ≡ true → after ≡ true
