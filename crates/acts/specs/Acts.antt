@@ -13,7 +13,7 @@ use Rattle.event.specs.declared.events.Touch.the-variants as touch
 use Rattle.registers.specs.declared.register.Register.{Register}
 use Rattle.registers.specs.Windows.{registerAt}
 use Rattle.registers.specs.Writes.{noSetting}
-use Rattle.registers.specs.Queues.{roomOf, clears, loads}
+use Rattle.levels.specs.Queues.{roomOf, clears, loads}
 use Rattle.receiver.specs.Arrivals.{heardOf}
 use Rattle.receiver.specs.Line.{lineArrived, lineRead, lineCleared, lineQuieter, fateNumber}
 use Rattle.lines.specs.Transmit.{transmitRoom, shiftLoaded, slotReply}

@@ -17,8 +17,9 @@ use Rattle.registers.specs.declared.settings.Settings.{Settings}
 use Rattle.registers.specs.Windows.{same, registerAt}
 use Rattle.registers.specs.Writes.{withSetting}
 use Rattle.registers.specs.Bounds.{SettingIn, SettingsIn}
-use Rattle.registers.specs.Queues.{roomOf, clears, loads}
-use Rattle.registers.specs.Laws.{same-is, closed-sets-none, room-in, none-in, setting-in}
+use Rattle.levels.specs.Queues.{roomOf, clears, loads}
+use Rattle.registers.specs.Laws.{same-is, closed-sets-none, none-in, setting-in}
+use Rattle.levels.specs.Laws.{room-in}
 use Rattle.receiver.specs.declared.line.Line.{Line}
 use Rattle.receiver.specs.Arrivals.{doesPass, heardOf}
 use Rattle.receiver.specs.Laws.{quiet-arrived, quiet-read, quiet-cleared, quiet-quieter, heard-in, arrived-fits, fate-in}

@@ -10,7 +10,7 @@ use Rattle.event.specs.declared.events.Touch.the-variants as touch
 use Rattle.registers.specs.declared.register.Register.the-variants as register
 use Rattle.registers.specs.Windows.{registerAt}
 use Rattle.registers.specs.Writes.{noSetting, settingOf}
-use Rattle.registers.specs.Queues.{clears}
+use Rattle.levels.specs.Queues.{clears}
 use Rattle.registers.specs.Laws.{closed-sets-none}
 use Rattle.receiver.specs.Line.{lineRead, lineCleared}
 use Rattle.lines.specs.Transmit.{thrCondition}

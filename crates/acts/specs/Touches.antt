@@ -14,7 +14,7 @@ use Rattle.registers.specs.declared.settings.Setting.{Setting}
 use Rattle.registers.specs.declared.settings.Settings.{Settings}
 use Rattle.registers.specs.Windows.{same, registerAt}
 use Rattle.registers.specs.Writes.{noSetting, settingOf, withSetting, resetsDevice}
-use Rattle.registers.specs.Queues.{clears, loads}
+use Rattle.levels.specs.Queues.{clears, loads}
 use Rattle.receiver.specs.Arrivals.{arrivedByte, doesPass, heardOf}
 
 -- the stored register that an event sets

@@ -4,6 +4,9 @@ use channel::Act;
 use channel::Channel;
 use channel::State;
 use event::Touch;
+use levels::clears;
+use levels::loads;
+use levels::room;
 use lines::Shift;
 use lines::TRANSMIT_ROOM;
 use queue::Character;
@@ -49,7 +52,7 @@ fn sends(channel: Channel, register: Register, byte: u8) -> Moved
         };
         return channel.tx.adds(true, character, TRANSMIT_ROOM);
     }
-    let clears = channel.settings.clears(register, byte, 2);
+    let clears = clears(channel.settings, register, byte, 2);
     channel.tx.clears(clears)
 }
 
@@ -58,7 +61,7 @@ fn write(channel: Channel, address: u8, byte: u8) -> Act
     ensures { λ r. ⌜ r ≡ writeAct channel address byte ⌝ }
 {
     let register = channel.settings.register(address);
-    let clears = channel.settings.clears(register, byte, 1);
+    let clears = clears(channel.settings, register, byte, 1);
     Act {
         setting: channel.settings.written(register, byte),
         state: channel.state.with_line(channel.state.line.cleared(clears)),
@@ -100,7 +103,7 @@ fn arrival(channel: Channel, byte: u8, mark: u8) -> Act
         byte: arrived_byte(channel.settings, byte, mark),
         mark: mark,
     };
-    let moved = channel.rx.adds(passes, character, channel.settings.room());
+    let moved = channel.rx.adds(passes, character, room(channel.settings));
     let line = channel.state.line.arrived(moved.kept);
     let lined = channel.state.with_line(line);
     Act {
@@ -119,7 +122,7 @@ fn slot(channel: Channel) -> Act
     ensures { λ r. ⌜ r ≡ slotAct channel ⌝ }
 {
     let oldest = channel.tx.oldest();
-    let loads = channel.settings.loads(channel.state.modem.cts());
+    let loads = loads(channel.settings, channel.state.modem.cts());
     let shift = Shift::loaded(loads & (channel.tx.count != 0), oldest.byte);
     Act {
         setting: Setting::none(),

@@ -5,8 +5,8 @@ use lib.Dec.{eqb}
 use Rattle.bits.specs.Choice.{pick}
 use Rattle.queue.specs.Queue as queue
 use Rattle.queue.specs.Queue.{Below, oldestOf, anyMarkOf}
-use Rattle.registers.specs.declared.levels.Characters.{Characters}
-use Rattle.registers.specs.declared.levels.Spaces.{Spaces}
+use Rattle.levels.specs.declared.trigger.Characters.{Characters}
+use Rattle.levels.specs.declared.trigger.Spaces.{Spaces}
 use Rattle.registers.specs.declared.register.Register.{Register}
 use Rattle.registers.specs.declared.register.Register.the-variants as register
 use Rattle.registers.specs.Windows.{same}

@@ -3,7 +3,7 @@
 use Prim.Native.Nat.{_≤_}
 use mathlib.Core.Bool.{Bool, not}
 use Rattle.queue.specs.Queue.{MovedIn, afterOf}
-use Rattle.registers.specs.declared.levels.Spaces.{Spaces}
+use Rattle.levels.specs.declared.trigger.Spaces.{Spaces}
 use Rattle.registers.specs.declared.register.Register.the-variants as register
 use Rattle.registers.specs.declared.settings.Settings.{Settings}
 use Rattle.registers.specs.Windows.{same}

@@ -2,12 +2,12 @@
 use crate::state::State;
 use interrupts::Interrupt;
 use interrupts::pending;
+use levels::Characters;
 use lines::all_free;
 use lines::rts_asserted;
 use lines::spaces;
 use queue::Queue;
 use receiver::Status;
-use registers::Characters;
 use registers::Register;
 use registers::Settings;
 ghost use mathlib.Core.Path.{_≡_};

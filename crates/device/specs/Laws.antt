@@ -21,7 +21,7 @@ use Rattle.registers.specs.declared.register.Register.the-variants as register
 use Rattle.registers.specs.declared.settings.Settings.{Settings}
 use Rattle.registers.specs.Windows.{registerAt}
 use Rattle.registers.specs.Writes.{settingOf, ifSet, withSetting, resetsDevice}
-use Rattle.registers.specs.Queues.{clears}
+use Rattle.levels.specs.Queues.{clears}
 use Rattle.registers.specs.Bounds.{SettingsIn}
 use Rattle.registers.specs.Laws.{same-is, zero-held, byte-held}
 use Rattle.channel.specs.declared.channel.Channel.{Channel}

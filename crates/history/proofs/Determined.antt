@@ -27,15 +27,15 @@ use Rattle.event.proofs.refused_answer.Reads as event-refused-answer
 use Rattle.file.proofs.read_at.Reads as file-read-at
 use Rattle.file.proofs.write.Reads as file-write
 use Rattle.file.proofs.put_event.Reads as file-put-event
-use Rattle.registers.proofs.levels.Characters.reaches.Reads as registers-characters-reaches
-use Rattle.registers.proofs.levels.Spaces.reaches.Reads as registers-spaces-reaches
-use Rattle.registers.proofs.settings.Settings.receive_level.Reads as registers-settings-receive-level
-use Rattle.registers.proofs.settings.Settings.transmit_level.Reads as registers-settings-transmit-level
-use Rattle.registers.proofs.settings.Settings.halt_level.Reads as registers-settings-halt-level
-use Rattle.registers.proofs.settings.Settings.resume_level.Reads as registers-settings-resume-level
-use Rattle.registers.proofs.settings.Settings.room.Reads as registers-settings-room
-use Rattle.registers.proofs.settings.Settings.clears.Reads as registers-settings-clears
-use Rattle.registers.proofs.settings.Settings.loads.Reads as registers-settings-loads
+use Rattle.levels.proofs.trigger.Characters.reaches.Reads as levels-characters-reaches
+use Rattle.levels.proofs.trigger.Spaces.reaches.Reads as levels-spaces-reaches
+use Rattle.levels.proofs.receive_level.Reads as levels-receive-level
+use Rattle.levels.proofs.transmit_level.Reads as levels-transmit-level
+use Rattle.levels.proofs.halt_level.Reads as levels-halt-level
+use Rattle.levels.proofs.resume_level.Reads as levels-resume-level
+use Rattle.levels.proofs.room.Reads as levels-room
+use Rattle.levels.proofs.clears.Reads as levels-clears
+use Rattle.levels.proofs.loads.Reads as levels-loads
 use Rattle.registers.proofs.register.Register.is.Reads as registers-register-is
 use Rattle.registers.proofs.settings.Setting.none.Reads as registers-setting-none
 use Rattle.registers.proofs.settings.Settings.register.Reads as registers-settings-register
@@ -169,32 +169,32 @@ file-read-at-determined κs = by-equation (λ a r s h. h)
 pub file-write-determined : Determined (file-write.Post tt)
 file-write-determined = by-equation (λ a r s h. h)
 
-pub registers-characters-reaches-determined : Determined (registers-characters-reaches.Post tt)
-registers-characters-reaches-determined = by-equation (λ a r s h. h)
+pub levels-characters-reaches-determined : Determined (levels-characters-reaches.Post tt)
+levels-characters-reaches-determined = by-equation (λ a r s h. h)
 
-pub registers-spaces-reaches-determined : Determined (registers-spaces-reaches.Post tt)
-registers-spaces-reaches-determined = by-equation (λ a r s h. h)
+pub levels-spaces-reaches-determined : Determined (levels-spaces-reaches.Post tt)
+levels-spaces-reaches-determined = by-equation (λ a r s h. h)
 
-pub registers-settings-receive-level-determined : Determined (registers-settings-receive-level.Post tt)
-registers-settings-receive-level-determined = by-equation (λ a r s h. h)
+pub levels-receive-level-determined : Determined (levels-receive-level.Post tt)
+levels-receive-level-determined = by-equation (λ a r s h. h)
 
-pub registers-settings-transmit-level-determined : Determined (registers-settings-transmit-level.Post tt)
-registers-settings-transmit-level-determined = by-equation (λ a r s h. h)
+pub levels-transmit-level-determined : Determined (levels-transmit-level.Post tt)
+levels-transmit-level-determined = by-equation (λ a r s h. h)
 
-pub registers-settings-halt-level-determined : Determined (registers-settings-halt-level.Post tt)
-registers-settings-halt-level-determined = by-equation (λ a r s h. h)
+pub levels-halt-level-determined : Determined (levels-halt-level.Post tt)
+levels-halt-level-determined = by-equation (λ a r s h. h)
 
-pub registers-settings-resume-level-determined : Determined (registers-settings-resume-level.Post tt)
-registers-settings-resume-level-determined = by-equation (λ a r s h. h)
+pub levels-resume-level-determined : Determined (levels-resume-level.Post tt)
+levels-resume-level-determined = by-equation (λ a r s h. h)
 
-pub registers-settings-room-determined : Determined (registers-settings-room.Post tt)
-registers-settings-room-determined = by-equation (λ a r s h. h)
+pub levels-room-determined : Determined (levels-room.Post tt)
+levels-room-determined = by-equation (λ a r s h. h)
 
-pub registers-settings-clears-determined : Determined (registers-settings-clears.Post tt)
-registers-settings-clears-determined = by-equation (λ a r s h. h)
+pub levels-clears-determined : Determined (levels-clears.Post tt)
+levels-clears-determined = by-equation (λ a r s h. h)
 
-pub registers-settings-loads-determined : Determined (registers-settings-loads.Post tt)
-registers-settings-loads-determined = by-equation (λ a r s h. h)
+pub levels-loads-determined : Determined (levels-loads.Post tt)
+levels-loads-determined = by-equation (λ a r s h. h)
 
 pub registers-register-is-determined : Determined (registers-register-is.Post tt)
 registers-register-is-determined = by-equation (λ a r s h. h)

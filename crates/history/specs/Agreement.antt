@@ -7,8 +7,8 @@ use Rattle.queue.specs.Queue.{emptyQueue, movedBy}
 use Rattle.queue.specs.Laws.{items-cleared}
 use Rattle.event.specs.declared.events.Made.{Made}
 use Rattle.registers.specs.declared.settings.Settings.{Settings}
-use Rattle.registers.specs.Queues.{roomOf}
-use Rattle.registers.specs.Laws.{room-in}
+use Rattle.levels.specs.Queues.{roomOf}
+use Rattle.levels.specs.Laws.{room-in}
 use Rattle.channel.specs.declared.channel.Channel.{Channel}
 use Rattle.channel.specs.Channel.{WellFormed}
 use Rattle.acts.specs.Touches.{receiveChange}

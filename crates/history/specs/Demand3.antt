@@ -19,7 +19,7 @@ use Rattle.registers.specs.declared.register.Register.{Register}
 use Rattle.registers.specs.declared.register.Register.the-variants as register
 use Rattle.registers.specs.declared.settings.Settings.{Settings}
 use Rattle.registers.specs.Windows.{registerAt}
-use Rattle.registers.specs.Queues.{roomOf}
+use Rattle.levels.specs.Queues.{roomOf}
 use Rattle.receiver.specs.Arrivals.{heardOf}
 use Rattle.receiver.specs.Line.{fateNumber}
 use Rattle.acts.specs.Touches.{resetsBy}

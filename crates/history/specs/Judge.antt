@@ -16,7 +16,7 @@ use Rattle.event.specs.declared.events.Made.{Made}
 use Rattle.event.specs.declared.events.Made.the-variants as made
 use Rattle.event.specs.declared.events.Touch.{Touch}
 use Rattle.registers.specs.declared.settings.Settings.{Settings}
-use Rattle.registers.specs.Queues.{roomOf}
+use Rattle.levels.specs.Queues.{roomOf}
 use Rattle.acts.specs.Touches.{settingsAfter, receiveChange, resetsBy}
 use Rattle.device.specs.declared.side.Side.{Side}
 use Rattle.device.specs.declared.side.Side.the-variants as side

@@ -19,7 +19,7 @@ use Rattle.event.specs.declared.events.Touch.the-variants as touch
 use Rattle.registers.specs.declared.register.Register.{Register}
 use Rattle.registers.specs.declared.register.Register.the-variants as register
 use Rattle.registers.specs.Windows.{same, registerAt}
-use Rattle.registers.specs.Queues.{roomOf, clears}
+use Rattle.levels.specs.Queues.{roomOf, clears}
 use Rattle.registers.specs.Laws.{same-is}
 use Rattle.receiver.specs.declared.arrival.Gate.{Gate}
 use Rattle.receiver.specs.declared.arrival.Gate.the-variants as gate

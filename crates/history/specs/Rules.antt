@@ -21,7 +21,7 @@ use Rattle.registers.specs.declared.settings.Setting.{Setting}
 use Rattle.registers.specs.declared.settings.Settings.{Settings}
 use Rattle.registers.specs.Windows.{same, tcrOpen, generalAt, enhancedAt, divisorAt, registerAt}
 use Rattle.registers.specs.Writes.{noSetting, withSetting, resetsDevice}
-use Rattle.registers.specs.Queues.{roomOf, fifoChanges, clears}
+use Rattle.levels.specs.Queues.{roomOf, fifoChanges, clears}
 use Rattle.registers.specs.Laws.{closed-sets-none}
 use Rattle.receiver.specs.declared.arrival.Gate.{Gate}
 use Rattle.receiver.specs.declared.arrival.Gate.the-variants as gate

@@ -14,8 +14,8 @@ use Rattle.file.specs.declared.number.Number.the-variants as number
 use Rattle.file.specs.Numbers.{secondAt, numberAt}
 use Rattle.registers.specs.Windows.{generalAt, enhancedAt, registerAt, tcrOpen}
 use Rattle.registers.specs.Writes.{guardOpen, ierWritten, fcrWritten, efcrWritten, takenBy, noSetting, settingOf, ifSet, withSetting, resetsDevice}
-use Rattle.registers.specs.Levels.{fours, transmitLevel}
-use Rattle.registers.specs.Queues.{roomOf, fifoChanges, clears}
+use Rattle.levels.specs.Levels.{fours, transmitLevel}
+use Rattle.levels.specs.Queues.{roomOf, fifoChanges, clears}
 use Rattle.receiver.specs.Arrivals.{modeOf, arrivedByte, equalsXoff2, doesPass, unlessOff, receiverSet, heardPlain, heardNinth, heardAddress, heardOf}
 use Rattle.receiver.specs.Line.{lineArrived, lineRead, lineCleared, fateNumber, lsrOf}
 use Rattle.lines.specs.Transmit.{spacesOf, allFree, isBusy, thrCondition}

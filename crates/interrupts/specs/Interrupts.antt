@@ -5,8 +5,8 @@ use lib.Dec.{eqb, leb}
 use Rattle.bits.specs.Choice.{pick}
 use Rattle.bits.specs.Bits.{bitAt, partAt}
 use Rattle.registers.specs.declared.settings.Settings.{Settings}
-use Rattle.registers.specs.declared.levels.Characters.{Characters}
-use Rattle.registers.specs.Levels.{receiveLevel}
+use Rattle.levels.specs.declared.trigger.Characters.{Characters}
+use Rattle.levels.specs.Levels.{receiveLevel}
 use Rattle.receiver.specs.declared.line.Line.{Line}
 use Rattle.lines.specs.declared.modem.Modem.{Modem}
 use Rattle.interrupts.specs.declared.flags.Flags.{Flags}

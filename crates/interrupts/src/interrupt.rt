@@ -4,9 +4,10 @@ use bits::bit;
 use bits::chosen;
 use bits::joined;
 use bits::part;
+use levels::Characters;
+use levels::receive_level;
 use lines::Modem;
 use receiver::Line;
-use registers::Characters;
 use registers::Settings;
 ghost use mathlib.Core.Path.{_≡_};
 ghost use Rattle.interrupts.specs.Interrupts.{codeOf, isPending, triggerLevel, modemChanged, lineStatusPending, timeoutPending, receivePending, transmitPending, modemPending, specialPending, flowPending, pendingOf, iirOf};
@@ -56,7 +57,7 @@ fn trigger_level(settings: Settings) -> Characters
     ensures { λ r. ⌜ r ≡ triggerLevel settings ⌝ }
 {
     if bit(settings.fcr, 0) {
-        return settings.receive_level();
+        return receive_level(settings);
     }
     Characters(1)
 }

@@ -8,7 +8,7 @@ use lib.Bits.{bitXor, or-lt, xor-lt}
 use Rattle.bits.specs.Choice.{pick, pick-by}
 use Rattle.bits.specs.Bits.{bitAt}
 use Rattle.bits.specs.Laws.{cut-fits}
-use Rattle.registers.specs.declared.levels.Characters.{Characters}
+use Rattle.levels.specs.declared.trigger.Characters.{Characters}
 use Rattle.registers.specs.declared.register.Register.{Register}
 use Rattle.registers.specs.declared.register.Register.the-variants as register
 use Rattle.registers.specs.declared.settings.Settings.{Settings}

@@ -3,9 +3,9 @@ use mathlib.Core.Bool.{Bool, true, false, not}
 use lib.Dec.{leb}
 use Rattle.bits.specs.Choice.{pick}
 use Rattle.bits.specs.Bits.{differs, bitAt}
-use Rattle.registers.specs.declared.levels.Characters.{Characters}
+use Rattle.levels.specs.declared.trigger.Characters.{Characters}
 use Rattle.registers.specs.declared.settings.Settings.{Settings}
-use Rattle.registers.specs.Levels.{haltLevel, resumeLevel}
+use Rattle.levels.specs.Levels.{haltLevel, resumeLevel}
 
 -- "count ≥ halt"
 unfoldable pub haltReached : Settings → Characters → Bool

@@ -5,8 +5,8 @@ use lib.Dec.{eqb, leb}
 use Rattle.bits.specs.Choice.{pick}
 use Rattle.bits.specs.Bits.{bitAt, cutTo}
 use Rattle.registers.specs.declared.settings.Settings.{Settings}
-use Rattle.registers.specs.declared.levels.Spaces.{Spaces}
-use Rattle.registers.specs.Levels.{transmitLevel}
+use Rattle.levels.specs.declared.trigger.Spaces.{Spaces}
+use Rattle.levels.specs.Levels.{transmitLevel}
 use Rattle.lines.specs.declared.transmit.Shift.{Shift}
 
 -- "Room is 64 in both modes (house ..)."

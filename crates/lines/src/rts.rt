@@ -1,7 +1,9 @@
 // The RTS line and the auto-RTS latch.
 use bits::bit;
 use bits::differ;
-use registers::Characters;
+use levels::Characters;
+use levels::halt_level;
+use levels::resume_level;
 use registers::Settings;
 ghost use mathlib.Core.Path.{_≡_};
 ghost use Rattle.lines.specs.Rts.{haltReached, resumeReached, latchAfter, rtsOf};
@@ -9,13 +11,13 @@ ghost use Rattle.lines.specs.Rts.{haltReached, resumeReached, latchAfter
 fn halts(settings: Settings, received: Characters) -> bool
     ensures { λ r. ⌜ r ≡ haltReached settings received ⌝ }
 {
-    received.reaches(settings.halt_level())
+    received.reaches(halt_level(settings))
 }
 
 fn resumes(settings: Settings, received: Characters) -> bool
     ensures { λ r. ⌜ r ≡ resumeReached settings received ⌝ }
 {
-    settings.resume_level().reaches(received)
+    resume_level(settings).reaches(received)
 }
 
 // The latch after an event that leaves so many characters in the receive queue.

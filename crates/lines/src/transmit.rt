@@ -2,8 +2,9 @@
 use bits::bit;
 use bits::chosen;
 use bits::cut;
+use levels::Spaces;
+use levels::transmit_level;
 use registers::Settings;
-use registers::Spaces;
 ghost use mathlib.Core.Path.{_≡_};
 ghost use Prim.Native.Nat.{_≤_};
 ghost use Rattle.lines.specs.Transmit.{transmitRoom, spacesOf, allFree, isBusy, shiftLoaded, slotReply, thrCondition};
@@ -38,7 +39,7 @@ pub fn thr_condition(settings: Settings, free: Spaces) -> bool
     ensures { λ r. ⌜ r ≡ thrCondition settings free ⌝ }
 {
     if bit(settings.fcr, 0) {
-        return free.reaches(settings.transmit_level());
+        return free.reaches(transmit_level(settings));
     }
     all_free(free)
 }

@@ -1,5 +1,5 @@
--- Laws: what follows from the definitions: registers told apart, what setting none comes to, the bound of a room, and that what
--- is stored stays within its bounds.
+-- Laws: what follows from the definitions: registers told apart, what setting none comes to, and that what is stored stays
+-- within its bounds.
 use Prim.Native.Nat.{ℕ, _<_, _≤_}
 use native.Mathlib.Omega.{arith}
 use mathlib.Core.Path.{_≡_, refl, sym, ap, _∙_}
@@ -17,7 +17,6 @@ use Rattle.registers.specs.declared.settings.Settings.{Settings}
 use Rattle.registers.specs.Windows.{place, same}
 use Rattle.registers.specs.Writes.{guardOpen, ierWritten, fcrWritten, mcrWritten, efcrWritten, divisorWritten, takenBy, noSetting, settingOf, ifSet, withSetting}
 use Rattle.registers.specs.Bounds.{MayHold, SettingIn, SettingsIn}
-use Rattle.registers.specs.Queues.{roomOf}
 
 -- ---- two registers of one place are one
 abbrev byPlace : List Register
@@ -60,10 +59,6 @@ same-is r q h =
 pub closed-sets-none : (s : Settings) (set : Setting) → set .register ≡ register.Closed → withSetting s set ≡ s
 unfolding withSetting ifSet
 closed-sets-none s set closed = rw closed
-
-pub room-in : (s : Settings) → roomOf s ≤ 64
-unfolding roomOf
-room-in s = pick-by (λ (n : ℕ). n ≤ 64) (bitAt (s .fcr) 0) (λ _. omega arith) (λ _. omega arith)
 
 -- ---- what is stored stays within its bounds
 -- 0 may be held by any register, a byte by any but the three that have bits which stay 0

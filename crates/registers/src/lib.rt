@@ -1,11 +1,7 @@
 // The stored registers of a channel, a machine of their own: what they become depends on them and the event alone.
-mod levels;
-mod queues;
 mod register;
 mod settings;
 
-pub use levels::Characters;
-pub use levels::Spaces;
 pub use register::Register;
 pub use settings::Setting;
 pub use settings::Settings;

@@ -1,4 +1,4 @@
-use Rattle.registers.specs.Laws.{room-in}
+use Rattle.levels.specs.Laws.{room-in}
 use borrow.Author.Needs.{needs}
 use Rattle.queue.specs.Queue.{movedBy}
 use Rattle.queue.specs.Laws.{moved-pick}

@@ -1,9 +1,9 @@
 use Rattle.bits.specs.Laws.{part-in}
 use borrow.Author.Tests.{ne-eqb}
 use borrow.Author.Needs.{needs}
-use Rattle.registers.specs.Levels.{transmitLevel}
-use Rattle.registers.proofs.settings.Settings.transmit_level.Statement.{statement}
-use Rattle.registers.proofs.settings.Settings.transmit_level.Tie as tie
+use Rattle.levels.specs.Levels.{transmitLevel}
+use Rattle.levels.proofs.trigger.transmit_level.Statement.{statement}
+use Rattle.levels.proofs.trigger.transmit_level.Tie as tie
 
 four-times-requires : tie.Need-four-times-requires
 four-times-requires c κs = search needs

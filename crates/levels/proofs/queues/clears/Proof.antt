@@ -1,7 +1,7 @@
 use borrow.Author.Needs.{needs}
-use Rattle.registers.specs.Queues.{clears}
-use Rattle.registers.proofs.settings.Settings.clears.Statement.{statement}
-use Rattle.registers.proofs.settings.Settings.clears.Tie as tie
+use Rattle.levels.specs.Queues.{clears}
+use Rattle.levels.proofs.queues.clears.Statement.{statement}
+use Rattle.levels.proofs.queues.clears.Tie as tie
 
 is-requires : tie.Need-is-requires
 is-requires c κs = search needs

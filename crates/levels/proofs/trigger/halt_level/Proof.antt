@@ -1,9 +1,9 @@
 use Rattle.bits.specs.Laws.{part-in}
 use borrow.Author.Tests.{ne-eqb}
 use borrow.Author.Needs.{needs}
-use Rattle.registers.specs.Levels.{haltLevel}
-use Rattle.registers.proofs.settings.Settings.halt_level.Statement.{statement}
-use Rattle.registers.proofs.settings.Settings.halt_level.Tie as tie
+use Rattle.levels.specs.Levels.{haltLevel}
+use Rattle.levels.proofs.trigger.halt_level.Statement.{statement}
+use Rattle.levels.proofs.trigger.halt_level.Tie as tie
 
 part-requires : tie.Need-part-requires
 part-requires c κs = search needs

@@ -5,9 +5,9 @@ use lib.ListN.{getD}
 use lib.Dec.{eqb}
 use Rattle.bits.specs.Choice.{pick}
 use Rattle.bits.specs.Bits.{partAt}
-use Rattle.registers.specs.declared.levels.Characters.{Characters}
-use Rattle.registers.specs.declared.levels.Spaces.{Spaces}
+use Rattle.levels.specs.declared.trigger.Characters.{Characters}
+use Rattle.levels.specs.declared.trigger.Spaces.{Spaces}
 use Rattle.registers.specs.declared.settings.Settings.{Settings}
 
 -- four times the four bits of a register from a place on
 unfoldable pub fours : ℕ → ℕ → ℕ

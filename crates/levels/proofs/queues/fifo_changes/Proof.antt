@@ -1,7 +1,7 @@
 use borrow.Author.Needs.{needs}
-use Rattle.registers.specs.Queues.{fifoChanges}
-use Rattle.registers.proofs.settings.Settings.fifo_changes.Statement.{statement}
-use Rattle.registers.proofs.settings.Settings.fifo_changes.Tie as tie
+use Rattle.levels.specs.Queues.{fifoChanges}
+use Rattle.levels.proofs.queues.fifo_changes.Statement.{statement}
+use Rattle.levels.proofs.queues.fifo_changes.Tie as tie
 
 bit-requires : tie.Need-bit-requires
 bit-requires c κs = search needs

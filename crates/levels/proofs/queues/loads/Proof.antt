@@ -1,7 +1,7 @@
 use borrow.Author.Needs.{needs}
-use Rattle.registers.specs.Queues.{loads}
-use Rattle.registers.proofs.settings.Settings.loads.Statement.{statement}
-use Rattle.registers.proofs.settings.Settings.loads.Tie as tie
+use Rattle.levels.specs.Queues.{loads}
+use Rattle.levels.proofs.queues.loads.Statement.{statement}
+use Rattle.levels.proofs.queues.loads.Tie as tie
 
 bit-requires : tie.Need-bit-requires
 bit-requires c κs = search needs

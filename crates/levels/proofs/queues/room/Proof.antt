@@ -1,7 +1,7 @@
 use borrow.Author.Needs.{needs}
-use Rattle.registers.specs.Queues.{roomOf}
-use Rattle.registers.proofs.settings.Settings.room.Statement.{statement}
-use Rattle.registers.proofs.settings.Settings.room.Tie as tie
+use Rattle.levels.specs.Queues.{roomOf}
+use Rattle.levels.proofs.queues.room.Statement.{statement}
+use Rattle.levels.proofs.queues.room.Tie as tie
 
 bit-requires : tie.Need-bit-requires
 bit-requires c κs = search needs

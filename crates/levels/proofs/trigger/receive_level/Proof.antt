@@ -1,9 +1,9 @@
 use Rattle.bits.specs.Laws.{part-in}
 use borrow.Author.Tests.{ne-eqb}
 use borrow.Author.Needs.{needs}
-use Rattle.registers.specs.Levels.{receiveLevel}
-use Rattle.registers.proofs.settings.Settings.receive_level.Statement.{statement}
-use Rattle.registers.proofs.settings.Settings.receive_level.Tie as tie
+use Rattle.levels.specs.Levels.{receiveLevel}
+use Rattle.levels.proofs.trigger.receive_level.Statement.{statement}
+use Rattle.levels.proofs.trigger.receive_level.Tie as tie
 
 four-times-requires : tie.Need-four-times-requires
 four-times-requires c κs = search needs

@@ -2,9 +2,9 @@ use Prim.Native.Nat.{_<_}
 use Rattle.bits.specs.Laws.{part-in}
 use native.Mathlib.Omega.{arith}
 use borrow.Author.Needs.{needs}
-use Rattle.registers.specs.Levels.{fours}
-use Rattle.registers.proofs.levels.four_times.Statement.{statement}
-use Rattle.registers.proofs.levels.four_times.Tie as tie
+use Rattle.levels.specs.Levels.{fours}
+use Rattle.levels.proofs.trigger.four_times.Statement.{statement}
+use Rattle.levels.proofs.trigger.four_times.Tie as tie
 
 part-requires : tie.Need-part-requires
 part-requires c κs = search needs
