@@ -16,7 +16,7 @@ use Rattle.event.specs.Laws.{Small, in-range-known}
 use Rattle.file.specs.declared.reading.Reading.{Reading}
 use Rattle.file.specs.declared.reading.Reading.the-variants as reading
 use Rattle.file.specs.Reading.{placed, readAt}
-use Rattle.file.specs.Writing.{numberBytes}
+use Rattle.file.specs.Form.{numberBytes}
 use Rattle.file.specs.Whole.{numbersWritten, eventsWritten, standingAt, numbersThen, numbersFrom, readingThen, historyFrom, endThen, endFrom, numbersIn, historyOf, endOf}
 use Rattle.file.specs.Laws.{Bytes, numbers-back, bytes-of-made, list-past, ReadingFrom, reading-from, past-the-end}
 

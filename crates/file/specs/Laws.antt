@@ -27,7 +27,7 @@ use Rattle.file.specs.declared.reading.Reading.{Reading}
 use Rattle.file.specs.declared.reading.Reading.the-variants as reading
 use Rattle.file.specs.Numbers.{groups, secondBroken, secondAt, numberAt, operandAt}
 use Rattle.file.specs.Reading.{andThen, placed, operandsAt, readAt}
-use Rattle.file.specs.Writing.{operandBytes, numberBytes, bytesOf}
+use Rattle.file.specs.Form.{operandBytes, numberBytes, bytesOf}
 use Rattle.file.specs.Whole.{standingAt}
 
 -- ---- a number as it is written

@@ -15,7 +15,7 @@ use Rattle.file.specs.declared.reading.Reading.{Reading}
 use Rattle.file.specs.declared.reading.Reading.the-variants as reading
 use Rattle.file.specs.Numbers.{numberAt, operandAt}
 use Rattle.file.specs.Reading.{readAt}
-use Rattle.file.specs.Writing.{numberBytes, bytesOf}
+use Rattle.file.specs.Form.{numberBytes, bytesOf}
 
 -- numbers and events as they are written, one behind the other
 abbrev pub joined : List (List ℕ) → List ℕ

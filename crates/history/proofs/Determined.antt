@@ -25,8 +25,8 @@ use Rattle.event.proofs.events.Event.judged.Reads as event-judged
 use Rattle.event.proofs.refusal.Refusal.number.Reads as event-refusal-number
 use Rattle.event.proofs.refused_answer.Reads as event-refused-answer
 use Rattle.file.proofs.read_at.Reads as file-read-at
-use Rattle.file.proofs.write.Reads as file-write
-use Rattle.file.proofs.put_event.Reads as file-put-event
+use Rattle.writer.proofs.write.Reads as writer-write
+use Rattle.writer.proofs.put_event.Reads as writer-put-event
 use Rattle.levels.proofs.trigger.Characters.reaches.Reads as levels-characters-reaches
 use Rattle.levels.proofs.trigger.Spaces.reaches.Reads as levels-spaces-reaches
 use Rattle.levels.proofs.receive_level.Reads as levels-receive-level
@@ -166,8 +166,8 @@ event-refused-answer-determined = by-equation (λ a r s h. h)
 pub file-read-at-determined : (κs : Lfts 1) → Determined (file-read-at.Post κs)
 file-read-at-determined κs = by-equation (λ a r s h. h)
 
-pub file-write-determined : Determined (file-write.Post tt)
-file-write-determined = by-equation (λ a r s h. h)
+pub writer-write-determined : Determined (writer-write.Post tt)
+writer-write-determined = by-equation (λ a r s h. h)
 
 pub levels-characters-reaches-determined : Determined (levels-characters-reaches.Post tt)
 levels-characters-reaches-determined = by-equation (λ a r s h. h)
@@ -375,8 +375,8 @@ DeterminedWith {A} {R} {S} part allowed = (a : A) (r r′ : R) (s s′ : S) → 
 pub text-put-line-determined : (κs : Lfts 2) → DeterminedWith (λ s. now (s .0)) (text-put-line.Post κs)
 text-put-line-determined κs a r r′ s s′ p q = (p .0 ∙ sym (q .0), p .1 ∙ sym (q .1))
 
-pub file-put-event-determined : (κs : Lfts 1) → DeterminedWith (λ s. now (s .0)) (file-put-event.Post κs)
-file-put-event-determined κs a r r′ s s′ p q = (p .0 ∙ sym (q .0), p .1 ∙ sym (q .1))
+pub writer-put-event-determined : (κs : Lfts 1) → DeterminedWith (λ s. now (s .0)) (writer-put-event.Post κs)
+writer-put-event-determined κs a r r′ s s′ p q = (p .0 ∙ sym (q .0), p .1 ∙ sym (q .1))
 
 pub run-cursor-fill-determined : (κs : Lfts 2) → DeterminedWith (λ s. now (s .1 .1 .0)) (run-cursor-fill.Post κs)
 run-cursor-fill-determined κs a r r′ s s′ p q =

@@ -1,10 +1,10 @@
 // The chip as C sees it: two functions over a record that the caller keeps and lends, and the writer of event files.
 use device::Device;
-use file::put_event;
 use lent::advance;
+use writer::put_event;
 ghost use mathlib.Core.Path.{_≡_};
 ghost use Rattle.event.specs.Events.{eventOf};
-ghost use Rattle.file.specs.Writing.{Put};
+ghost use Rattle.writer.specs.Writing.{Put};
 ghost use Rattle.device.specs.Reset.{newDevice};
 ghost use Rattle.device.specs.Device.{WellFormed};
 ghost use Rattle.lent.specs.Lent.{Advanced};

@@ -11,9 +11,9 @@ use Rattle.event.specs.declared.events.Touch.the-variants as touch
 use Rattle.event.specs.declared.events.Event.{Event}
 use Rattle.event.specs.declared.events.Event.the-variants as event
 use Rattle.event.specs.Events.{InRange}
 use Rattle.file.specs.Numbers.{groups}
-use Rattle.file.specs.Writing.{bytesOf}
+use Rattle.file.specs.Form.{bytesOf}
 use Rattle.file.specs.Laws.{one-group, two-groups}
 
 abbrev byteGroups : ℕ → List ℕ
 byteGroups byte = pick (ltb byte 128) (byte ∷ []) (byte ∷ 1 ∷ [])

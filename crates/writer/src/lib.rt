@@ -9,7 +9,7 @@ ghost use mathlib.Core.List.{_++_};
 ghost use Prim.Native.Nat.{_≤_};
 ghost use lib.ListN.{length, take, drop};
 ghost use Rattle.event.specs.Events.{InRange, eventOf};
-ghost use Rattle.file.specs.Writing.{wholeOf, writtenOf, Put};
+ghost use Rattle.writer.specs.Writing.{wholeOf, writtenOf, Put};
 
 // The least number that takes two groups.
 const TWO_GROUPS: u8 = 128;

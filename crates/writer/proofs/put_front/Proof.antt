@@ -7,8 +7,8 @@ use mathlib.Core.Path.{_≡_, refl}
 use mathlib.Core.List.{List, _++_}
 use lib.ListN.{length, getD, take, drop, set, length-set}
 use lib.Seq.{paste-suc}
-use Rattle.file.proofs.writing.put_front.Statement.{statement}
-use Rattle.file.proofs.writing.put_front.Tie as tie
+use Rattle.writer.proofs.put_front.Statement.{statement}
+use Rattle.writer.proofs.put_front.Tie as tie
 
 one-more : (out now bytes : List ℕ) (i : ℕ) → now ≡ take i bytes ++ drop i out → i < length out → i < length bytes
     → set now i (getD bytes i 0) ≡ take (i + 1) bytes ++ drop (i + 1) out

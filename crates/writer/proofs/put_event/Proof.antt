@@ -11,11 +11,12 @@ use Rattle.event.specs.declared.events.Made.the-variants as made
 use Rattle.event.specs.Refusals.{refusedAnswer}
 use Rattle.event.specs.Events.{eventOf}
 use Rattle.event.specs.Laws.{refusal-some}
-use Rattle.file.specs.declared.writing.Written.{Written}
-use Rattle.file.specs.Writing.{bytesOf, padded, wholeOf, writtenOf, putAnswer, putInto, Put}
-use Rattle.file.specs.Theorems.{written-five-at-most}
-use Rattle.file.proofs.writing.put_event.Statement.{statement}
-use Rattle.file.proofs.writing.put_event.Tie as tie
+use Rattle.writer.specs.declared.Written.{Written}
+use Rattle.file.specs.Form.{bytesOf}
+use Rattle.writer.specs.Writing.{padded, wholeOf, writtenOf, putAnswer, putInto, Put}
+use Rattle.writer.specs.Theorems.{written-five-at-most}
+use Rattle.writer.proofs.put_event.Statement.{statement}
+use Rattle.writer.proofs.put_event.Tie as tie
 
 -- what is answered and left of a buffer, by what was written of an event
 module _ (out : List ℕ) where

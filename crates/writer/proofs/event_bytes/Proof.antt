@@ -1,9 +1,9 @@
-use Rattle.file.proofs.Table.{table-right}
+use Rattle.writer.proofs.Table.{table-right}
 use borrow.Author.Tests.{lt-ltb, le-ltb}
 use borrow.Author.Needs.{needs}
-use Rattle.file.specs.Writing.{padded, wholeOf}
-use Rattle.file.proofs.writing.event_bytes.Statement.{statement}
-use Rattle.file.proofs.writing.event_bytes.Tie as tie
+use Rattle.writer.specs.Writing.{padded, wholeOf}
+use Rattle.writer.proofs.event_bytes.Statement.{statement}
+use Rattle.writer.proofs.event_bytes.Tie as tie
 
 enum-known-event : tie.Need-enum-known-event
 enum-known-event c = search needs

@@ -1,9 +1,9 @@
 use mathlib.Core.Path.{sym, _∙_}
 use Rattle.event.specs.Laws.{made-in-range}
 use borrow.Author.Needs.{needs}
-use Rattle.file.specs.Writing.{writtenOf}
-use Rattle.file.proofs.writing.write.Statement.{statement}
-use Rattle.file.proofs.writing.write.Tie as tie
+use Rattle.writer.specs.Writing.{writtenOf}
+use Rattle.writer.proofs.write.Statement.{statement}
+use Rattle.writer.proofs.write.Tie as tie
 
 event-of-requires : tie.Need-event-of-requires
 event-of-requires c κs = search needs
