@@ -38,24 +38,27 @@ abbrev pub lastFrom : Device → List Lending → Device
 lastFrom d [] = d
 lastFrom d (step ∷ chain) = lastFrom (step .left) chain
 
+abbrev pub lentHistory : List Lending → List Made
+lentHistory chain = fromNumbers (map (λ step. step .given) chain)
+
 abbrev pub lentLog : List Lending → Log
 lentLog chain =
     record {
-      history = fromNumbers (map (λ step. step .given) chain);
+      history = lentHistory chain;
       answered = map (λ step. step .answer) chain;
       device = lastFrom newDevice chain;
     }
 
 -- ---- a chain says what the history by value says
 answers-of : (chain : List Lending) (d : Device) → ChainFrom d chain
-    → map (λ step. step .answer) chain ≡ map answerNumber (answersFrom d (fromNumbers (map (λ step. step .given) chain)))
+    → map (λ step. step .answer) chain ≡ map answerNumber (answersFrom d (lentHistory chain))
 answers-of [] d h = refl
 answers-of (step ∷ chain) d h =
     rw (h .0 .0) (ap (λ (ns : List ℕ). answerNumber (answeredOf d (madeOf (step .given)) .answer) ∷ ns) (rw (h .0 .1) at (answers-of chain (step .left) (h .1))))
 
-last-of : (chain : List Lending) (d : Device) → ChainFrom d chain → lastFrom d chain ≡ ranFrom d (fromNumbers (map (λ step. step .given) chain))
+last-of : (chain : List Lending) (d : Device) → ChainFrom d chain → lastFrom d chain ≡ ranFrom d (lentHistory chain)
 last-of [] d h = refl
-last-of (step ∷ chain) d h = last-of chain (step .left) (h .1) ∙ ap (λ (e : Device). ranFrom e (fromNumbers (map (λ step. step .given) chain))) (h .0 .1)
+last-of (step ∷ chain) d h = last-of chain (step .left) (h .1) ∙ ap (λ (e : Device). ranFrom e (lentHistory chain)) (h .0 .1)
 
 pub lent-of-new-device : (chain : List Lending) → Chain chain → OfNewDevice (lentLog chain)
 lent-of-new-device chain h =
@@ -65,7 +68,7 @@ pub demand-3-of-lent : (w : Side) (chain : List Lending) → Chain chain → Dem
 demand-3-of-lent w chain h = demand-3 w (lentLog chain) (lent-of-new-device chain h)
 
 pub alone-of-lent : (w : Side) (chain another : List Lending) → Chain chain → Chain another
-    → remainder w (lentLog chain .history) ≡ remainder w (lentLog another .history) → Alone w (lentLog chain) (lentLog another)
+    → remainder w (lentHistory chain) ≡ remainder w (lentHistory another) → Alone w (lentLog chain) (lentLog another)
 alone-of-lent w chain another h h′ same =
     alone w (lentLog chain) (lentLog another) (lent-of-new-device chain h) (lent-of-new-device another h′) same
 
