@@ -107,7 +107,8 @@ uint32_t sc16is752_step(struct sc16is752 *chip, uint64_t kind, uint64_t x, uint6
 
 /* Writes an event of an event file: its bytes are put at the start of bytes, if there is room for them, and what is behind
  * them stays as it was. Answers their count, or 0 if there is no room, or SC16IS752_REFUSED plus the refusal number; with
- * these two bytes stays as it was. Put one behind the other, such bytes are a file that the bench program runs. */
+ * these two bytes stays as it was. Put one behind the other, such bytes are a file that the bench program runs. It is in an
+ * archive of its own, libsc16is752_file.a. */
 uint32_t sc16is752_event_bytes(uint64_t kind, uint64_t x, uint64_t y, uint64_t z, uint8_t *bytes, size_t length);
 
 /* The most bytes that an event takes, and that an event file may have. */

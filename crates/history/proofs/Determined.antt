@@ -27,6 +27,7 @@ use Rattle.event.proofs.refused_answer.Reads as event-refused-answer
 use Rattle.file.proofs.read_at.Reads as file-read-at
 use Rattle.writer.proofs.write.Reads as writer-write
 use Rattle.writer.proofs.put_event.Reads as writer-put-event
+use Rattle.sc16is752_file.proofs.sc16is752_event_bytes.Reads as sc16is752-event-bytes
 use Rattle.levels.proofs.trigger.Characters.reaches.Reads as levels-characters-reaches
 use Rattle.levels.proofs.trigger.Spaces.reaches.Reads as levels-spaces-reaches
 use Rattle.levels.proofs.receive_level.Reads as levels-receive-level
@@ -377,6 +378,9 @@ text-put-line-determined κs a r r′ s s′ p q = (p .0 ∙ sym (q .0), p .1 �
 
 pub writer-put-event-determined : (κs : Lfts 1) → DeterminedWith (λ s. now (s .0)) (writer-put-event.Post κs)
 writer-put-event-determined κs a r r′ s s′ p q = (p .0 ∙ sym (q .0), p .1 ∙ sym (q .1))
+
+pub sc16is752-event-bytes-determined : (κs : Lfts 1) → DeterminedWith (λ s. now (s .1 .1 .1 .1 .0)) (sc16is752-event-bytes.Post κs)
+sc16is752-event-bytes-determined κs a r r′ s s′ p q = (p .0 ∙ sym (q .0), p .1 ∙ sym (q .1))
 
 pub run-cursor-fill-determined : (κs : Lfts 2) → DeterminedWith (λ s. now (s .1 .1 .0)) (run-cursor-fill.Post κs)
 run-cursor-fill-determined κs a r r′ s s′ p q =

@@ -16,7 +16,6 @@ use Rattle.queue.proofs.settle as settle
 use Rattle.lent.proofs.advance as advance
 use Rattle.sc16is752.proofs.sc16is752_new as new
 use Rattle.sc16is752.proofs.sc16is752_step as step
-use Rattle.sc16is752.proofs.sc16is752_event_bytes as event-bytes
 
 module _ {M : Type 1} (𝓤 : URA M) where
   abbrev Determined : (T : Ended) → Clauses 𝓤 T → {S : Type 0} → ((κs : Lfts (T .signature .lifetimes)) → AtExit T κs → S) → Type 1
@@ -41,6 +40,3 @@ module _ {M : Type 1} (𝓤 : URA M) where
 
     pub step-determined : Determined step.ended (step.clauses 𝓤 H A at-mem run) (λ κs e. now (e .0))
     step-determined κs a g r r′ e e′ = from-both (λ p q. (p .0 ∙ sym (q .0), p .1 ∙ sym (q .1)))
-
-    pub event-bytes-determined : Determined event-bytes.ended (event-bytes.clauses 𝓤 H A at-mem run) (λ κs e. now (e .1 .1 .1 .1 .0))
-    event-bytes-determined κs a g r r′ e e′ = from-both (λ p q. (p .0 ∙ sym (q .0), p .1 ∙ sym (q .1)))

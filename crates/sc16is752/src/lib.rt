@@ -1,10 +1,8 @@
-// The chip as C sees it: two functions over a record that the caller keeps and lends, and the writer of event files.
+// The chip as C sees it: two functions over a record that the caller keeps and lends.
 use device::Device;
 use lent::advance;
-use writer::put_event;
 ghost use mathlib.Core.Path.{_≡_};
 ghost use Rattle.event.specs.Events.{eventOf};
-ghost use Rattle.writer.specs.Writing.{Put};
 ghost use Rattle.device.specs.Reset.{newDevice};
 ghost use Rattle.device.specs.Device.{WellFormed};
 ghost use Rattle.lent.specs.Lent.{Advanced};
@@ -24,13 +22,4 @@ pub extern "C" fn sc16is752_step(chip: &mut Device, kind: u64, x: u64, y: u64, z
     ensures { λ r. ⌜ Advanced (now (chip .entry)) (eventOf kind x y z) (now (chip .exit)) r ⌝ }
 {
     advance(chip, kind, x, y, z)
-}
-
-// An event, from plain numbers, as an event file has it, at the start of the lent bytes where it fits: the count of its
-// bytes, 0 where they do not fit, or 512 and the refusal number.
-#[no_mangle]
-pub extern "C" fn sc16is752_event_bytes(kind: u64, x: u64, y: u64, z: u64, bytes: &mut [u8]) -> u32
-    ensures { λ r. ⌜ Put (now (bytes .entry)) (eventOf kind x y z) (now (bytes .exit)) r ⌝ }
-{
-    put_event(bytes, kind, x, y, z)
 }
