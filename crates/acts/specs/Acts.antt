@@ -2,7 +2,7 @@
 -- that it sets, what happens to the queues and whether the device is reset go by the stored registers (Touches), alike for
 -- every kind; what becomes of the lines, and the reply, each kind says here.
 use Prim.Native.Nat.{ℕ}
-use mathlib.Core.Bool.{false, not, _&&_}
+use mathlib.Core.Bool.{Bool, false, not, _&&_}
 use lib.Dec.{eqb}
 use Rattle.bits.specs.Bits.{oneIf}
 use Rattle.queue.specs.declared.Moved.{Moved}
@@ -30,8 +30,12 @@ use Rattle.acts.specs.Touches.{settingBy, receiveChange, transmitChange,
 abbrev pub received : Channel → Touch → Moved
 received ch t = movedBy (ch .rx) (receiveChange (ch .settings) t) (roomOf (ch .settings))
 
+-- "the oldest is loaded if .. EFCR 2 is clear, and EFR 7 is clear or CTS is asserted"
+abbrev pub loadsOldest : Channel → Bool
+loadsOldest ch = loads (ch .settings) (ctsAsserted (ch .state .modem))
+
 abbrev pub sentChange : Channel → Touch → Change
-sentChange ch t = transmitChange (ch .settings) (ctsAsserted (ch .state .modem)) t
+sentChange ch t = transmitChange (ch .settings) (loadsOldest ch) t
 
 abbrev pub sent : Channel → Touch → Moved
 sent ch t = movedBy (ch .tx) (sentChange ch t) transmitRoom
@@ -91,8 +95,7 @@ arrivalAct ch byte mark =
 unfoldable pub slotAct : Channel → Act
 slotAct ch =
     actWith ch touch.Slot
-    (withShift (ch .state)
-    (shiftLoaded (loads (ch .settings) (ctsAsserted (ch .state .modem)) && not (eqb (ch .tx .count) 0)) (oldestOf (ch .tx) .byte)))
+    (withShift (ch .state) (shiftLoaded (loadsOldest ch && not (eqb (ch .tx .count) 0)) (oldestOf (ch .tx) .byte)))
     (slotReply (ch .state .shift) (ch .settings))
 
 -- ---- 4 pins

@@ -17,14 +17,13 @@ use Rattle.registers.specs.declared.settings.Settings.{Settings}
 use Rattle.registers.specs.Windows.{same, registerAt}
 use Rattle.registers.specs.Writes.{withSetting}
 use Rattle.registers.specs.Bounds.{SettingIn, SettingsIn}
-use Rattle.levels.specs.Queues.{roomOf, clears, loads}
+use Rattle.levels.specs.Queues.{roomOf, clears}
 use Rattle.registers.specs.Laws.{same-is, closed-sets-none, none-in, setting-in}
 use Rattle.levels.specs.Laws.{room-in}
 use Rattle.receiver.specs.declared.line.Line.{Line}
 use Rattle.receiver.specs.Arrivals.{doesPass, heardOf}
 use Rattle.receiver.specs.Laws.{quiet-arrived, quiet-read, quiet-cleared, quiet-quieter, heard-in, arrived-fits, fate-in}
 use Rattle.lines.specs.Transmit.{transmitRoom}
-use Rattle.lines.specs.Modem.{ctsAsserted}
 use Rattle.lines.specs.Laws.{modem-read, modem-changed, shift-loaded, slot-in}
 use Rattle.channel.specs.declared.channel.Channel.{Channel}
 use Rattle.channel.specs.declared.state.State.{State}
@@ -33,7 +32,7 @@ use Rattle.channel.specs.Channel.{WellFormed, rtsAsserted, shownAt}
 use Rattle.channel.specs.Settle.{ActIn, StepIn, settledOf, afterStep}
 use Rattle.channel.specs.Laws.{with-line-in, with-shift-in, with-modem-in, with-flags-in, settled-in, well-formed-stepped, read-fits}
 use Rattle.acts.specs.Touches.{settingBy, settingsAfter, receiveChange, sentBy, transmitChange, resetsBy}
-use Rattle.acts.specs.Acts.{received, sentChange, actWith, writeAct, readAct, arrivalAct, slotAct, pinsAct, quietAct, lookAct, actOf}
+use Rattle.acts.specs.Acts.{received, loadsOldest, sentChange, actWith, writeAct, readAct, arrivalAct, slotAct, pinsAct, quietAct, lookAct, actOf}
 use Rattle.acts.specs.Step.{stepAt, touchedBy}
 
 -- ---- what every act has of the stored registers
@@ -88,17 +87,17 @@ received-in s (touch.Pins value) v = tt
 received-in s touch.Quiet v = tt
 received-in s touch.RtsLook v = tt
 
-sent-in : (s : Settings) (cts : Bool) (t : Touch) → TouchIn t → ChangeIn (transmitChange s cts t)
+sent-in : (s : Settings) (loading : Bool) (t : Touch) → TouchIn t → ChangeIn (transmitChange s loading t)
 unfolding transmitChange sentBy
-sent-in s cts (touch.Write address byte) v =
+sent-in s loading (touch.Write address byte) v =
     pick-by ChangeIn (same (registerAt s address) register.RhrThr) (λ _. record { byte-in = v .1; mark-in = omega arith })
     (λ _. pick-by ChangeIn (clears s (registerAt s address) byte 2) (λ _. tt) (λ _. tt))
-sent-in s cts (touch.Read address) v = tt
-sent-in s cts (touch.Arrival byte mark) v = tt
-sent-in s cts touch.Slot v = pick-by ChangeIn (loads s cts) (λ _. tt) (λ _. tt)
-sent-in s cts (touch.Pins value) v = tt
-sent-in s cts touch.Quiet v = tt
-sent-in s cts touch.RtsLook v = tt
+sent-in s loading (touch.Read address) v = tt
+sent-in s loading (touch.Arrival byte mark) v = tt
+sent-in s loading touch.Slot v = pick-by ChangeIn loading (λ _. tt) (λ _. tt)
+sent-in s loading (touch.Pins value) v = tt
+sent-in s loading touch.Quiet v = tt
+sent-in s loading touch.RtsLook v = tt
 
 setting-by-in : (s : Settings) (t : Touch) → TouchIn t → SettingsIn s → SettingIn (settingBy s t)
 unfolding settingBy
@@ -119,7 +118,7 @@ module _ (ch : Channel) (ok : WellFormed ch) where
         setting-in = setting-by-in (ch .settings) t v (ok .settings-in);
         lines-in = l;
         rx-in = moved-in (ch .rx) (receiveChange (ch .settings) t) (roomOf (ch .settings)) (ok .rx-in) (room-in (ch .settings)) (received-in (ch .settings) t v);
-        tx-in = moved-in (ch .tx) (sentChange ch t) transmitRoom (ok .tx-in) (omega arith) (sent-in (ch .settings) (ctsAsserted (ch .state .modem)) t v);
+        tx-in = moved-in (ch .tx) (sentChange ch t) transmitRoom (ok .tx-in) (omega arith) (sent-in (ch .settings) (loadsOldest ch) t v);
         reply-in = r;
       }
 

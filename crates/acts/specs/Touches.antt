@@ -14,7 +14,7 @@ use Rattle.registers.specs.declared.settings.Setting.{Setting}
 use Rattle.registers.specs.declared.settings.Settings.{Settings}
 use Rattle.registers.specs.Windows.{same, registerAt}
 use Rattle.registers.specs.Writes.{noSetting, settingOf, withSetting, resetsDevice}
-use Rattle.levels.specs.Queues.{clears, loads}
+use Rattle.levels.specs.Queues.{clears}
 use Rattle.receiver.specs.Arrivals.{arrivedByte, doesPass, heardOf}
 
 -- the stored register that an event sets
@@ -50,16 +50,15 @@ unfoldable pub sentBy : Settings → Register → ℕ → Change
 sentBy s written byte =
     pick (same written register.RhrThr) (Add (record { byte = byte; mark = 0 })) (pick (clears s written byte 2) Clear Stay)
 
--- what happens to the transmit queue, where CTS is asserted or not; "Slot: .. then the oldest is loaded", where loading is
--- allowed
+-- what happens to the transmit queue, where a slot may load or not; "Slot: .. then the oldest is loaded", where it may
 unfoldable pub transmitChange : Settings → Bool → Touch → Change
-transmitChange s cts (touch.Write address byte) = sentBy s (registerAt s address) byte
-transmitChange s cts (touch.Read address) = Stay
-transmitChange s cts (touch.Arrival byte mark) = Stay
-transmitChange s cts touch.Slot = pick (loads s cts) Take Stay
-transmitChange s cts (touch.Pins value) = Stay
-transmitChange s cts touch.Quiet = Stay
-transmitChange s cts touch.RtsLook = Stay
+transmitChange s loading (touch.Write address byte) = sentBy s (registerAt s address) byte
+transmitChange s loading (touch.Read address) = Stay
+transmitChange s loading (touch.Arrival byte mark) = Stay
+transmitChange s loading touch.Slot = pick loading Take Stay
+transmitChange s loading (touch.Pins value) = Stay
+transmitChange s loading touch.Quiet = Stay
+transmitChange s loading touch.RtsLook = Stay
 
 -- "Reset (Table 4), by kind 6 or IOControl"
 unfoldable pub resetsBy : Settings → Touch → Bool

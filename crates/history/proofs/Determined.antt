@@ -36,6 +36,7 @@ use Rattle.levels.proofs.halt_level.Reads as levels-halt-level
 use Rattle.levels.proofs.resume_level.Reads as levels-resume-level
 use Rattle.levels.proofs.room.Reads as levels-room
 use Rattle.levels.proofs.clears.Reads as levels-clears
+use Rattle.levels.proofs.transmits.Reads as levels-transmits
 use Rattle.levels.proofs.loads.Reads as levels-loads
 use Rattle.registers.proofs.register.Register.is.Reads as registers-register-is
 use Rattle.registers.proofs.settings.Setting.none.Reads as registers-setting-none
@@ -57,6 +58,7 @@ use Rattle.lines.proofs.modem.Modem.cts_off.Reads as lines-modem-cts-off
 use Rattle.lines.proofs.modem.Modem.changed.Reads as lines-modem-changed
 use Rattle.lines.proofs.modem.Modem.read.Reads as lines-modem-read
 use Rattle.lines.proofs.modem.Modem.msr.Reads as lines-modem-msr
+use Rattle.lines.proofs.latch_driven.Reads as lines-latch-driven
 use Rattle.lines.proofs.latch_after.Reads as lines-latch-after
 use Rattle.lines.proofs.rts_asserted.Reads as lines-rts-asserted
 use Rattle.lines.proofs.spaces.Reads as lines-spaces
@@ -194,6 +196,9 @@ levels-room-determined = by-equation (λ a r s h. h)
 pub levels-clears-determined : Determined (levels-clears.Post tt)
 levels-clears-determined = by-equation (λ a r s h. h)
 
+pub levels-transmits-determined : Determined (levels-transmits.Post tt)
+levels-transmits-determined = by-equation (λ a r s h. h)
+
 pub levels-loads-determined : Determined (levels-loads.Post tt)
 levels-loads-determined = by-equation (λ a r s h. h)
 
@@ -256,6 +261,9 @@ lines-modem-read-determined = by-equation (λ a r s h. h)
 
 pub lines-modem-msr-determined : Determined (lines-modem-msr.Post tt)
 lines-modem-msr-determined = by-equation (λ a r s h. h)
+
+pub lines-latch-driven-determined : Determined (lines-latch-driven.Post tt)
+lines-latch-driven-determined = by-equation (λ a r s h. h)
 
 pub lines-latch-after-determined : Determined (lines-latch-after.Post tt)
 lines-latch-after-determined = by-equation (λ a r s h. h)

@@ -19,7 +19,7 @@ use Rattle.levels.specs.Queues.{roomOf, fifoChanges, clears}
 use Rattle.receiver.specs.Arrivals.{modeOf, arrivedByte, equalsXoff2, doesPass, unlessOff, receiverSet, heardPlain, heardNinth, heardAddress, heardOf}
 use Rattle.receiver.specs.Line.{lineArrived, lineRead, lineCleared, fateNumber, lsrOf}
 use Rattle.lines.specs.Transmit.{spacesOf, allFree, isBusy, thrCondition}
-use Rattle.lines.specs.Rts.{latchAfter, rtsOf}
+use Rattle.lines.specs.Rts.{latchDriven, latchAfter, rtsOf}
 use Rattle.lines.specs.Modem.{modemRead}
 use Rattle.interrupts.specs.Interrupts.{codeOf, lineStatusPending, timeoutPending, receivePending, transmitPending, modemPending, specialPending, flowPending, pendingOf, iirOf}
 use Rattle.interrupts.specs.Flags.{flagsCleared, flagsArrived, thrSettled, flagsSettled}
@@ -112,5 +112,5 @@ table =
     ∷ []
 
 pub cases-hold : map (λ row. row .given) table ≡ map (λ row. row .expected) table
-unfolding table oneIf differs bitAt partAt replacedAt cutTo emptyQueue oldestOf markedFrom anyMarkOf addsTo takesFrom clearsAll staysAs movedBy afterOf secondAt numberAt generalAt enhancedAt registerAt tcrOpen guardOpen ierWritten fcrWritten efcrWritten takenBy noSetting settingOf ifSet withSetting resetsDevice modeOf arrivedByte equalsXoff2 doesPass unlessOff receiverSet heardPlain heardNinth heardAddress heardOf roomOf fours transmitLevel fifoChanges clears lineArrived lineRead lineCleared fateNumber lsrOf spacesOf allFree isBusy thrCondition latchAfter rtsOf modemRead codeOf lineStatusPending timeoutPending receivePending transmitPending modemPending specialPending flowPending pendingOf iirOf flagsCleared flagsArrived thrSettled flagsSettled withLine withModem withFlags withLatch pendingAt shownAt statusOf readOf settingBy receiveChange sentBy transmitChange resetsBy actWith writeAct readAct arrivalAct actOf momentOf momentAt settledOf stepAt afterStep settingsReset linesReset resetOf blankSettings blankChannel resetDevice newDevice sideNumbered touchedAt namedStep stepOf
+unfolding table oneIf differs bitAt partAt replacedAt cutTo emptyQueue oldestOf markedFrom anyMarkOf addsTo takesFrom clearsAll staysAs movedBy afterOf secondAt numberAt generalAt enhancedAt registerAt tcrOpen guardOpen ierWritten fcrWritten efcrWritten takenBy noSetting settingOf ifSet withSetting resetsDevice modeOf arrivedByte equalsXoff2 doesPass unlessOff receiverSet heardPlain heardNinth heardAddress heardOf roomOf fours transmitLevel fifoChanges clears lineArrived lineRead lineCleared fateNumber lsrOf spacesOf allFree isBusy thrCondition latchDriven latchAfter rtsOf modemRead codeOf lineStatusPending timeoutPending receivePending transmitPending modemPending specialPending flowPending pendingOf iirOf flagsCleared flagsArrived thrSettled flagsSettled withLine withModem withFlags withLatch pendingAt shownAt statusOf readOf settingBy receiveChange sentBy transmitChange resetsBy actWith writeAct readAct arrivalAct actOf momentOf momentAt settledOf stepAt afterStep settingsReset linesReset resetOf blankSettings blankChannel resetDevice newDevice sideNumbered touchedAt namedStep stepOf
 cases-hold = refl

@@ -20,6 +20,10 @@ fifoChanges s byte = differs (bitAt (s .fcr) 0) (bitAt byte 0)
 unfoldable pub clears : Settings → Register → ℕ → ℕ → Bool
 clears s written byte bit = same written register.IirFcr && (bitAt byte bit || fifoChanges s byte)
 
+-- "EFCR 2 is clear"
+unfoldable pub transmits : Settings → Bool
+transmits s = not (bitAt (s .efcr) 2)
+
 -- "the oldest is loaded if there is one, EFCR 2 is clear, and EFR 7 is clear or CTS is asserted"
 unfoldable pub loads : Settings → Bool → Bool
-loads s cts = not (bitAt (s .efcr) 2) && (not (bitAt (s .efr) 7) || cts)
+loads s cts = transmits s && (not (bitAt (s .efr) 7) || cts)

@@ -5,6 +5,7 @@ mod trigger;
 pub use queues::clears;
 pub use queues::loads;
 pub use queues::room;
+pub use queues::transmits;
 pub use trigger::Characters;
 pub use trigger::Spaces;
 pub use trigger::halt_level;

@@ -5,7 +5,7 @@ use bits::differ;
 use registers::Register;
 use registers::Settings;
 ghost use mathlib.Core.Path.{_≡_};
-ghost use Rattle.levels.specs.Queues.{roomOf, fifoChanges, clears, loads};
+ghost use Rattle.levels.specs.Queues.{roomOf, fifoChanges, clears, transmits, loads};
 
 // How many characters the receive queue has room for.
 pub fn room(settings: Settings) -> u8
@@ -28,9 +28,16 @@ pub fn clears(settings: Settings, register: Register, byte: u8, place: u8) -> bo
     register.is(Register::IirFcr) & (bit(byte, place) | fifo_changes(settings, byte))
 }
 
+// Whether the transmitter is on.
+pub fn transmits(settings: Settings) -> bool
+    ensures { λ r. ⌜ r ≡ transmits settings ⌝ }
+{
+    !bit(settings.efcr, 2)
+}
+
 // Whether a slot loads the oldest character, with CTS asserted or not.
 pub fn loads(settings: Settings, cts: bool) -> bool
     ensures { λ r. ⌜ r ≡ loads settings cts ⌝ }
 {
-    !bit(settings.efcr, 2) & (!bit(settings.efr, 7) | cts)
+    transmits(settings) & (!bit(settings.efr, 7) | cts)
 }

@@ -16,7 +16,7 @@ use Rattle.registers.specs.Windows.{same}
 use Rattle.lines.specs.declared.modem.Modem.{Modem}
 use Rattle.lines.specs.declared.transmit.Shift.{Shift}
 use Rattle.lines.specs.Modem.{ModemIn, pinsChanged, modemRead, msrOf}
-use Rattle.lines.specs.Rts.{haltReached, resumeReached, latchAfter}
+use Rattle.lines.specs.Rts.{haltReached, resumeReached, latchDriven, latchAfter}
 use Rattle.lines.specs.Transmit.{shiftLoaded, slotReply}
 
 pub modem-read : (m : Modem) (read : Register) → ModemIn m → ModemIn (modemRead m read)
@@ -49,15 +49,21 @@ slot-in shift s fits =
     pick-by (λ (n : ℕ). n ≤ 256) (shift .full) (λ _. omega (arith, cut-fits (shift .byte) (s .lcr) fits)) (λ _. omega arith)
 
 -- ---- a latch that the rule has made is what the rule makes of it
-picked-once : (clear halt resume latch : Bool)
-    → pick clear true (pick halt false (pick resume true (pick clear true (pick halt false (pick resume true latch)))))
-    ≡ pick clear true (pick halt false (pick resume true latch))
-picked-once true halt resume latch = refl
-picked-once false true resume latch = refl
-picked-once false false true latch = refl
-picked-once false false false latch = refl
+pub driven-once : (s : Settings) (received : Characters) (latch : Bool)
+    → latchDriven s received (latchDriven s received latch) ≡ latchDriven s received latch
+unfolding latchDriven
+driven-once s received latch = go (haltReached s received) (resumeReached s received) latch
+  where
+    go : (halt resume latch : Bool) → pick halt false (pick resume true (pick halt false (pick resume true latch))) ≡ pick halt false (pick resume true latch)
+    go true resume latch = refl
+    go false true latch = refl
+    go false false latch = refl
 
 pub latch-once : (s : Settings) (received : Characters) (latch : Bool)
     → latchAfter s received (latchAfter s received latch) ≡ latchAfter s received latch
 unfolding latchAfter
-latch-once s received latch = picked-once (not (bitAt (s .efr) 6)) (haltReached s received) (resumeReached s received) latch
+latch-once s received latch = go (not (bitAt (s .efr) 6))
+  where
+    go : (clear : Bool) → pick clear true (latchDriven s received (pick clear true (latchDriven s received latch))) ≡ pick clear true (latchDriven s received latch)
+    go true = refl
+    go false = driven-once s received latch

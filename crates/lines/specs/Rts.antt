@@ -15,12 +15,13 @@ haltReached s received = leb (haltLevel s .0) (received .0)
 unfoldable pub resumeReached : Settings → Characters → Bool
 resumeReached s received = leb (received .0) (resumeLevel s .0)
 
--- "The latch after each event of the channel: asserted if EFR 6 is clear; else off at count ≥ halt; else on at count ≤ resume; else as before."
+-- the halt and resume rule: "off at count ≥ halt; else on at count ≤ resume; else as before"
+unfoldable pub latchDriven : Settings → Characters → Bool → Bool
+latchDriven s received latch = pick (haltReached s received) false (pick (resumeReached s received) true latch)
+
+-- "The latch after each event of the channel: asserted if EFR 6 is clear; else" by that rule
 unfoldable pub latchAfter : Settings → Characters → Bool → Bool
-latchAfter s received latch =
-    pick (not (bitAt (s .efr) 6)) true
-    (pick (haltReached s received) false
-    (pick (resumeReached s received) true latch))
+latchAfter s received latch = pick (not (bitAt (s .efr) 6)) true (latchDriven s received latch)
 
 -- "with EFCR 4, asserted exactly while the transmit queue or shift register holds something, turned over by EFCR 5; else with EFR 6, the latch; else MCR 1."
 unfoldable pub rtsOf : Settings → Bool → Bool → Bool

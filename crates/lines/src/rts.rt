@@ -6,7 +6,7 @@ use levels::halt_level;
 use levels::resume_level;
 use registers::Settings;
 ghost use mathlib.Core.Path.{_≡_};
-ghost use Rattle.lines.specs.Rts.{haltReached, resumeReached, latchAfter, rtsOf};
+ghost use Rattle.lines.specs.Rts.{haltReached, resumeReached, latchDriven, latchAfter, rtsOf};
 
 fn halts(settings: Settings, received: Characters) -> bool
     ensures { λ r. ⌜ r ≡ haltReached settings received ⌝ }
@@ -20,13 +20,10 @@ fn resumes(settings: Settings, received: Characters) -> bool
     resume_level(settings).reaches(received)
 }
 
-// The latch after an event that leaves so many characters in the receive queue.
-pub fn latch_after(settings: Settings, received: Characters, latch: bool) -> bool
-    ensures { λ r. ⌜ r ≡ latchAfter settings received latch ⌝ }
+// A latch by the halt and resume rule, where so many characters are in the receive queue.
+pub fn latch_driven(settings: Settings, received: Characters, latch: bool) -> bool
+    ensures { λ r. ⌜ r ≡ latchDriven settings received latch ⌝ }
 {
-    if !bit(settings.efr, 6) {
-        return true;
-    }
     if halts(settings, received) {
         return false;
     }
@@ -34,6 +31,16 @@ pub fn latch_after(settings: Settings, received: Characters, latch: bool) -> boo
         return true;
     }
     latch
+}
+
+// The auto-RTS latch after an event that leaves so many characters in the receive queue.
+pub fn latch_after(settings: Settings, received: Characters, latch: bool) -> bool
+    ensures { λ r. ⌜ r ≡ latchAfter settings received latch ⌝ }
+{
+    if !bit(settings.efr, 6) {
+        return true;
+    }
+    latch_driven(settings, received, latch)
 }
 
 // Whether RTS is asserted, where something is sent or nothing is.
