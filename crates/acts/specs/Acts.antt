@@ -2,8 +2,9 @@
 -- that it sets, what happens to the queues and whether the device is reset go by the stored registers (Touches), alike for
 -- every kind; what becomes of the lines, and the reply, each kind says here.
 use Prim.Native.Nat.{ℕ}
-use mathlib.Core.Bool.{Bool, false, not, _&&_}
+use mathlib.Core.Bool.{Bool, false, not, _&&_, _||_}
 use lib.Dec.{eqb}
+use Rattle.bits.specs.Choice.{pick}
 use Rattle.bits.specs.Bits.{oneIf}
 use Rattle.queue.specs.declared.Moved.{Moved}
 use Rattle.queue.specs.Change.{Change}
@@ -18,11 +19,12 @@ use Rattle.receiver.specs.Arrivals.{heardOf}
 use Rattle.receiver.specs.Line.{lineArrived, lineRead, lineCleared, lineQuieter, fateNumber}
 use Rattle.lines.specs.Transmit.{transmitRoom, shiftLoaded, slotReply}
 use Rattle.lines.specs.Modem.{ctsAsserted, ctsOff, pinsChanged, modemRead}
+use Rattle.flow.specs.Flow.{flowHeard, flowWritten, sendsWaiting, freeToLoad, flowSent}
 use Rattle.interrupts.specs.Flags.{flagsCleared, flagsArrived, flagsPins}
 use Rattle.channel.specs.declared.settle.Act.{Act}
 use Rattle.channel.specs.declared.channel.Channel.{Channel}
 use Rattle.channel.specs.declared.state.State.{State}
-use Rattle.channel.specs.State.{withLine, withShift, withModem, withFlags}
+use Rattle.channel.specs.State.{withLine, withShift, withModem, withFlags, withFlow}
 use Rattle.channel.specs.Channel.{rtsAsserted, shownAt, readOf}
 use Rattle.acts.specs.Touches.{settingBy, receiveChange, transmitChange, resetsBy}
 
@@ -30,9 +32,14 @@ use Rattle.acts.specs.Touches.{settingBy, receiveChange, transmitChange,
 abbrev pub received : Channel → Touch → Moved
 received ch t = movedBy (ch .rx) (receiveChange (ch .settings) t) (roomOf (ch .settings))
 
--- "the oldest is loaded if .. EFCR 2 is clear, and EFR 7 is clear or CTS is asserted"
+-- "the oldest is loaded if .. EFCR 2 is clear, and EFR 7 is clear or CTS is asserted", no Xoff "stops loading" and nothing is
+-- loaded "before the queue"
 abbrev pub loadsOldest : Channel → Bool
-loadsOldest ch = loads (ch .settings) (ctsAsserted (ch .state .modem))
+loadsOldest ch = loads (ch .settings) (ctsAsserted (ch .state .modem)) && freeToLoad (ch .state .flow)
+
+-- ".. and the next slot with EFCR 2 clear loads it", the byte that waits
+abbrev pub loadsWaiting : Channel → Bool
+loadsWaiting ch = sendsWaiting (ch .state .flow) (ch .settings)
 
 abbrev pub sentChange : Channel → Touch → Change
 sentChange ch t = transmitChange (ch .settings) (loadsOldest ch) t
@@ -58,11 +65,14 @@ linesAct ch lines reply =
     record { setting = noSetting; state = lines; rx = staysAs (ch .rx); tx = staysAs (ch .tx); reply = reply; resets = false }
 
 -- ---- 0 write
--- FCR: "a receive clear makes it 0", the quiet count
+-- FCR: "a receive clear makes it 0", the quiet count; EFR: "Setting EFR 1:0 to 00 or 11 resumes", "EFR 3:2 set to 00 or 11, drops
+-- what waits"
 unfoldable pub writeAct : Channel → ℕ → ℕ → Act
 writeAct ch address byte =
     actWith ch (touch.Write address byte)
+    (withFlow
     (withLine (ch .state) (lineCleared (ch .state .line) (clears (ch .settings) (registerAt (ch .settings) address) byte 1)))
+    (flowWritten (ch .state .flow) (registerAt (ch .settings) address) byte))
     0
 
 -- ---- 1 read
@@ -82,20 +92,27 @@ readAct ch address =
     (replyRead ch (registerAt (ch .settings) address))
 
 -- ---- 2 arrival
--- ".. kept with its mark if fewer than room are queued, else lost (1) and overrun is set"
+-- ".. kept with its mark if fewer than room are queued, else lost (1) and overrun is set"; Xoff "stops loading"
 unfoldable pub arrivalAct : Channel → ℕ → ℕ → Act
 arrivalAct ch byte mark =
     actWith ch (touch.Arrival byte mark)
+    (withFlow
     (withFlags (withLine (ch .state) (lineArrived (ch .state .line) (received ch (touch.Arrival byte mark) .kept)))
     (flagsArrived (ch .state .flags) (heardOf (ch .settings) byte mark .special)))
+    (flowHeard (ch .state .flow) (ch .settings) (heardOf (ch .settings) byte mark .gate)))
     (fateNumber (heardOf (ch .settings) byte mark .gate) (received ch (touch.Arrival byte mark) .kept))
 
 -- ---- 3 send slot
--- "Slot: a held character leaves ..; then the oldest is loaded if there is one" and loading is allowed
+-- "Slot: a held character leaves ..; then the oldest is loaded if there is one" and loading is allowed; a byte that waits "before
+-- the queue"
 unfoldable pub slotAct : Channel → Act
 slotAct ch =
     actWith ch touch.Slot
-    (withShift (ch .state) (shiftLoaded (loadsOldest ch && not (eqb (ch .tx .count) 0)) (oldestOf (ch .tx) .byte)))
+    (withFlow
+    (withShift (ch .state)
+    (shiftLoaded (loadsWaiting ch || loadsOldest ch && not (eqb (ch .tx .count) 0))
+    (pick (loadsWaiting ch) (ch .state .flow .byte) (oldestOf (ch .tx) .byte))))
+    (flowSent (ch .state .flow) (loadsWaiting ch)))
     (slotReply (ch .state .shift) (ch .settings))
 
 -- ---- 4 pins

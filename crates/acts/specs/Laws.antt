@@ -1,13 +1,13 @@
 -- Laws: what a step comes to for the stored registers and the queues, and that acts, steps and a channel's record stay within
 -- their bounds.
-use Prim.Native.Nat.{ℕ, _≤_}
+use Prim.Native.Nat.{ℕ, _<_, _≤_}
 use native.Mathlib.Omega.{arith}
 use mathlib.Core.Path.{_≡_, refl, ap}
 use mathlib.Core.Bool.{Bool, false}
 use borrow.Author.Tests.{not-false}
-use Rattle.bits.specs.Choice.{pick-by}
+use Rattle.bits.specs.Choice.{pick, pick-by}
 use Rattle.bits.specs.Laws.{flag-in}
-use Rattle.queue.specs.Queue.{changed}
+use Rattle.queue.specs.Queue.{changed, oldestOf}
 use Rattle.queue.specs.Laws.{oldest-byte-below, ChangeIn, moved-in}
 use Rattle.event.specs.declared.events.Touch.{Touch}
 use Rattle.event.specs.declared.events.Touch.the-variants as touch
@@ -25,14 +25,15 @@ use Rattle.receiver.specs.Arrivals.{doesPass, heardOf}
 use Rattle.receiver.specs.Laws.{quiet-arrived, quiet-read, quiet-cleared, quiet-quieter, heard-in, arrived-fits, fate-in}
 use Rattle.lines.specs.Transmit.{transmitRoom}
 use Rattle.lines.specs.Laws.{modem-read, modem-changed, shift-loaded, slot-in}
+use Rattle.flow.specs.Laws.{heard-byte-in, written-byte-in, sent-byte-in}
 use Rattle.channel.specs.declared.channel.Channel.{Channel}
 use Rattle.channel.specs.declared.state.State.{State}
 use Rattle.channel.specs.State.{LinesIn, withLine}
 use Rattle.channel.specs.Channel.{WellFormed, rtsAsserted, shownAt}
 use Rattle.channel.specs.Settle.{ActIn, StepIn, settledOf, afterStep}
-use Rattle.channel.specs.Laws.{with-line-in, with-shift-in, with-modem-in, with-flags-in, settled-in, well-formed-stepped, read-fits}
+use Rattle.channel.specs.Laws.{with-line-in, with-shift-in, with-modem-in, with-flags-in, with-flow-in, settled-in, well-formed-stepped, read-fits}
 use Rattle.acts.specs.Touches.{settingBy, settingsAfter, receiveChange, sentBy, transmitChange, resetsBy}
-use Rattle.acts.specs.Acts.{received, loadsOldest, sentChange, actWith, writeAct, readAct, arrivalAct, slotAct, pinsAct, quietAct, lookAct, actOf}
+use Rattle.acts.specs.Acts.{received, loadsOldest, loadsWaiting, sentChange, actWith, writeAct, readAct, arrivalAct, slotAct, pinsAct, quietAct, lookAct, actOf}
 use Rattle.acts.specs.Step.{stepAt, touchedBy}
 
 -- ---- what every act has of the stored registers
@@ -125,11 +126,18 @@ module _ (ch : Channel) (ok : WellFormed ch) where
   abbrev lined : (line : Line) → line .quiet ≤ 4 → LinesIn (withLine (ch .state) line)
   lined = with-line-in (ch .state) (ok .lines-in)
 
+  loaded-fits : pick (loadsWaiting ch) (ch .state .flow .byte) (oldestOf (ch .tx) .byte) < 256
+  loaded-fits =
+      pick-by (λ (n : ℕ). n < 256) (loadsWaiting ch) (λ _. ok .lines-in .flow-in)
+      (λ _. oldest-byte-below 256 (ch .tx) (omega arith) (ok .sent-bytes-in))
+
   pub act-in : (t : Touch) → TouchIn t → ActIn (actOf ch t)
   unfolding actOf writeAct readAct arrivalAct slotAct pinsAct quietAct lookAct
   act-in (touch.Write address byte) v =
+      let written = registerAt (ch .settings) address in
       act-with-in (touch.Write address byte) _ 0 v
-      (lined _ (quiet-cleared (ch .state .line) (clears (ch .settings) (registerAt (ch .settings) address) byte 1) (ok .lines-in .quiet-in)))
+      (with-flow-in _ (lined _ (quiet-cleared (ch .state .line) (clears (ch .settings) written byte 1) (ok .lines-in .quiet-in)))
+      _ (written-byte-in (ch .state .flow) (ok .lines-in .flow-in) written byte))
       (omega arith)
   act-in (touch.Read address) v =
       let read = registerAt (ch .settings) address in
@@ -139,11 +147,14 @@ module _ (ch : Channel) (ok : WellFormed ch) where
       _)
       (omega (arith, read-fits ch read (shownAt ch read) ok))
   act-in (touch.Arrival byte mark) v =
-      act-with-in (touch.Arrival byte mark) _ _ v (with-flags-in _ (lined _ (quiet-arrived (ch .state .line) _)) _)
+      act-with-in (touch.Arrival byte mark) _ _ v
+      (with-flow-in _ (with-flags-in _ (lined _ (quiet-arrived (ch .state .line) _)) _)
+      _ (heard-byte-in (ch .state .flow) (ok .lines-in .flow-in) (ch .settings) (heardOf (ch .settings) byte mark .gate)))
       (omega (arith, fate-in (heardOf (ch .settings) byte mark .gate) (received ch (touch.Arrival byte mark) .kept)))
   act-in touch.Slot v =
       act-with-in touch.Slot _ _ v
-      (with-shift-in (ch .state) (ok .lines-in) _ (shift-loaded _ _ (oldest-byte-below 256 (ch .tx) (omega arith) (ok .sent-bytes-in))))
+      (with-flow-in _ (with-shift-in (ch .state) (ok .lines-in) _ (shift-loaded _ _ loaded-fits))
+      _ (sent-byte-in (ch .state .flow) (ok .lines-in .flow-in) (loadsWaiting ch)))
       (slot-in (ch .state .shift) (ch .settings) (ok .lines-in .shift-in))
   act-in (touch.Pins value) v =
       act-with-in (touch.Pins value) _ 0 v

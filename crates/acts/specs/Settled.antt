@@ -1,4 +1,4 @@
--- Laws: settling twice is settling once. "After each event": the latch is what its rule makes of it and the THR flag stands only
+-- Laws: settling twice is settling once. "After each event": each latch is what its rule makes of it and the THR flag stands only
 -- where its condition holds, so that an act that does nothing leaves the whole record as it is.
 use Prim.Native.Nat.{ℕ}
 use mathlib.Core.Path.{_≡_, refl}
@@ -10,6 +10,7 @@ use Rattle.event.specs.declared.events.Touch.the-variants as touch
 use Rattle.registers.specs.declared.register.Register.the-variants as register
 use Rattle.registers.specs.Windows.{registerAt}
 use Rattle.registers.specs.Writes.{noSetting, settingOf}
+use Rattle.registers.specs.Pairs.{pairAt}
 use Rattle.levels.specs.Queues.{clears}
 use Rattle.registers.specs.Laws.{closed-sets-none}
 use Rattle.receiver.specs.Line.{lineRead, lineCleared}
@@ -17,20 +18,23 @@ use Rattle.lines.specs.Transmit.{thrCondition}
 use Rattle.lines.specs.Rts.{latchAfter}
 use Rattle.lines.specs.Modem.{modemRead}
 use Rattle.lines.specs.Laws.{latch-once}
+use Rattle.flow.specs.Flow.{flowWritten, flowSettled}
+use Rattle.flow.specs.Laws.{flow-once}
 use Rattle.interrupts.specs.Flags.{flagsCleared, flagsSettled}
 use Rattle.interrupts.specs.Laws.{thr-has-condition, flags-stay}
 use Rattle.channel.specs.declared.settle.Act.{Act}
 use Rattle.channel.specs.declared.channel.Channel.{Channel}
-use Rattle.channel.specs.State.{withLine, withModem, withFlags, withLatch}
+use Rattle.channel.specs.State.{withLine, withModem, withFlags, withLatch, withFlow}
 use Rattle.channel.specs.Channel.{receivedAt, freeAt, shownAt}
 use Rattle.channel.specs.Settle.{momentOf, momentAt, settingsBy, settledOf, afterStep}
 use Rattle.acts.specs.Touches.{settingBy, receiveChange, sentBy, transmitChange}
 use Rattle.acts.specs.Acts.{actWith, writeAct, readAct, lookAct, actOf}
 use Rattle.acts.specs.Step.{stepAt, touchedBy}
 
--- a record that an event leaves behind: the latch as its rule makes it, and a THR flag only with its condition
+-- a record that an event leaves behind: both latches as their rules make them, and a THR flag only with its condition
 pub record Settled (ch : Channel) : Type 0 where
   pub latch-ruled : latchAfter (ch .settings) (receivedAt ch) (ch .state .latch) ≡ ch .state .latch
+  pub flow-ruled : flowSettled (ch .state .flow) (ch .settings) (pairAt (ch .settings) 2) (receivedAt ch) ≡ ch .state .flow
   pub thr-true : ch .state .flags .thr ≡ true → thrCondition (ch .settings) (freeAt ch) ≡ true
 
 -- an act that does nothing: it sets no register and leaves the lines and the queues as they are
@@ -42,10 +46,11 @@ pub record Idle (ch : Channel) (act : Act) : Type 0 where
 
 -- ---- whatever the act, what it comes to is settled
 pub act-settles : (ch : Channel) (act : Act) → Settled (afterStep ch (settledOf ch act))
-unfolding afterStep settledOf afterOf withLatch withFlags flagsSettled momentOf
+unfolding afterStep settledOf afterOf withLatch withFlags withFlow flagsSettled momentOf
 act-settles ch act =
     record {
       latch-ruled = latch-once (settingsBy ch act) (record { 0 = act .rx .count }) (act .state .latch);
+      flow-ruled = flow-once (act .state .flow) (settingsBy ch act) (pairAt (settingsBy ch act) 2) (record { 0 = act .rx .count });
       thr-true = thr-has-condition (act .state .flags .thr) (momentAt ch .thr) _;
     }
 
@@ -59,7 +64,7 @@ unfolding afterOf staysAs
 stays q = refl
 
 pub settled-stays : (ch : Channel) (act : Act) → Settled ch → Idle ch act → afterStep ch (settledOf ch act) ≡ ch
-unfolding afterStep settledOf momentAt momentOf staysAs withLatch withFlags
+unfolding afterStep settledOf momentAt momentOf staysAs withLatch withFlags withFlow
 settled-stays ch act settled idle =
     rw (
       idle .none-set,
@@ -67,6 +72,7 @@ settled-stays ch act settled idle =
       idle .rx-left,
       idle .tx-left,
       settled .latch-ruled,
+      settled .flow-ruled,
       flags-stay (ch .state .flags) (momentAt ch) (settled .thr-true),
       stays (ch .rx),
       stays (ch .tx),
@@ -103,7 +109,7 @@ closed-read-left ch address closed settled =
 
 pub closed-write-left : (ch : Channel) (address byte : ℕ) → registerAt (ch .settings) address ≡ register.Closed → Settled ch
     → touchedBy ch (touch.Write address byte) ≡ ch
-unfolding stepAt actOf writeAct actWith settingBy settingOf receiveChange transmitChange sentBy clears movedBy lineCleared withLine
+unfolding stepAt actOf writeAct actWith settingBy settingOf receiveChange transmitChange sentBy clears movedBy lineCleared flowWritten withLine withFlow
 closed-write-left ch address byte closed settled =
     settled-stays ch (writeAct ch address byte) settled
     (record {

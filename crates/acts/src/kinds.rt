@@ -1,4 +1,5 @@
 // What an event does at the channel that it names, kind by kind, before the channel settles.
+use bits::chosen;
 use bits::one_if;
 use channel::Act;
 use channel::Channel;
@@ -62,9 +63,10 @@ fn write(channel: Channel, address: u8, byte: u8) -> Act
 {
     let register = channel.settings.register(address);
     let clears = clears(channel.settings, register, byte, 1);
+    let lined = channel.state.with_line(channel.state.line.cleared(clears));
     Act {
         setting: channel.settings.written(register, byte),
-        state: channel.state.with_line(channel.state.line.cleared(clears)),
+        state: lined.with_flow(channel.state.flow.written(register, byte)),
         rx: channel.rx.clears(clears),
         tx: sends(channel, register, byte),
         reply: 0,
@@ -106,9 +108,11 @@ fn arrival(channel: Channel, byte: u8, mark: u8) -> Act
     let moved = channel.rx.adds(passes, character, room(channel.settings));
     let line = channel.state.line.arrived(moved.kept);
     let lined = channel.state.with_line(line);
+    let flagged = lined.with_flags(channel.state.flags.arrived(heard.special));
+    let flow = channel.state.flow.heard(channel.settings, gate);
     Act {
         setting: setting,
-        state: lined.with_flags(channel.state.flags.arrived(heard.special)),
+        state: flagged.with_flow(flow),
         rx: moved,
         tx: channel.tx.stays(),
         reply: fate(gate, moved.kept),
@@ -122,11 +126,17 @@ fn slot(channel: Channel) -> Act
     ensures { λ r. ⌜ r ≡ slotAct channel ⌝ }
 {
     let oldest = channel.tx.oldest();
-    let loads = loads(channel.settings, channel.state.modem.cts());
-    let shift = Shift::loaded(loads & (channel.tx.count != 0), oldest.byte);
+    let flow = channel.state.flow;
+    let sends = flow.sends(channel.settings);
+    let loads = loads(channel.settings, channel.state.modem.cts()) & flow.frees();
+    let shift = Shift::loaded(
+        sends | (loads & (channel.tx.count != 0)),
+        chosen(sends, flow.byte, oldest.byte),
+    );
+    let shifted = channel.state.with_shift(shift);
     Act {
         setting: Setting::none(),
-        state: channel.state.with_shift(shift),
+        state: shifted.with_flow(flow.sent(sends)),
         rx: channel.rx.stays(),
         tx: channel.tx.takes(loads),
         reply: channel.state.shift.leaving(channel.settings),

@@ -43,7 +43,7 @@ freeAt ch = spacesOf (ch .tx .count)
 -- the highest interrupt pending; LSR 7 is "some queued mark not 0"
 unfoldable pub pendingAt : Channel → Interrupt
 pendingAt ch =
-    pendingOf (ch .settings) (ch .state .line) (ch .state .modem) (ch .state .flags) (receivedAt ch) (anyMarkOf (ch .rx))
+    pendingOf (ch .settings) (ch .state .line) (ch .state .modem) (ch .state .flow) (ch .state .flags) (receivedAt ch) (anyMarkOf (ch .rx))
 
 unfoldable pub rtsAsserted : Channel → Bool
 rtsAsserted ch = rtsOf (ch .settings) (ch .state .latch) (isBusy (ch .state .shift) (freeAt ch))
@@ -52,7 +52,7 @@ rtsAsserted ch = rtsOf (ch .settings) (ch .state .latch) (isBusy (ch .state .shi
 unfoldable pub shownAt : Channel → Register → Interrupt
 shownAt ch read = pick (same read register.IirFcr) (pendingAt ch) interrupt.Nothing
 
--- what LSR is made of
+-- what LSR is made of; "LSR 6 then also needs nothing waiting."
 unfoldable pub statusOf : Channel → Status
 statusOf ch =
     record {
@@ -60,7 +60,7 @@ statusOf ch =
       overrun = ch .state .line .overrun;
       mark = oldestOf (ch .rx) .mark;
       sent = allFree (freeAt ch);
-      idle = allFree (freeAt ch) && not (ch .state .shift .full);
+      idle = allFree (freeAt ch) && not (ch .state .shift .full) && not (ch .state .flow .waits);
       error = anyMarkOf (ch .rx);
     }
 

@@ -6,7 +6,9 @@ use mathlib.Core.Bool.{Bool}
 use Rattle.queue.specs.Laws.{queue-after, bytes-after, marks-after, oldest-byte-below, oldest-mark-below}
 use Rattle.registers.specs.declared.register.Register.{Register}
 use Rattle.registers.specs.declared.register.Register.the-variants as register
-use Rattle.registers.specs.Laws.{settings-in}
+use Rattle.registers.specs.Bounds.{SettingsIn}
+use Rattle.registers.specs.Pairs.{pairAt}
+use Rattle.registers.specs.Laws.{settings-in, pair-in}
 use Rattle.receiver.specs.declared.line.Line.{Line}
 use Rattle.receiver.specs.Laws.{lsr-fits}
 use Rattle.lines.specs.declared.transmit.Shift.{Shift}
@@ -14,6 +16,8 @@ use Rattle.lines.specs.declared.modem.Modem.{Modem}
 use Rattle.lines.specs.Transmit.{spacesOf}
 use Rattle.lines.specs.Modem.{ModemIn}
 use Rattle.lines.specs.Laws.{msr-fits}
+use Rattle.flow.specs.declared.flow.Flow.{Flow}
+use Rattle.flow.specs.Laws.{settled-byte-in}
 use Rattle.interrupts.specs.declared.flags.Flags.{Flags}
 use Rattle.interrupts.specs.declared.interrupt.Interrupt.{Interrupt}
 use Rattle.interrupts.specs.Laws.{iir-fits}
@@ -21,39 +25,46 @@ use Rattle.channel.specs.declared.settle.Act.{Act}
 use Rattle.channel.specs.declared.settle.Step.{Step}
 use Rattle.channel.specs.declared.channel.Channel.{Channel}
 use Rattle.channel.specs.declared.state.State.{State}
-use Rattle.channel.specs.State.{LinesIn, withLine, withShift, withModem, withFlags, withLatch}
+use Rattle.channel.specs.State.{LinesIn, withLine, withShift, withModem, withFlags, withLatch, withFlow}
 use Rattle.channel.specs.Channel.{WellFormed, statusOf, readOf}
-use Rattle.channel.specs.Settle.{ActIn, StepIn, settledOf, afterStep}
+use Rattle.channel.specs.Settle.{ActIn, StepIn, settingsBy, settledOf, afterStep}
 
 -- ---- the lines with one of them anew
 module _ (s : State) (ok : LinesIn s) where
   pub with-line-in : (line : Line) → line .quiet ≤ 4 → LinesIn (withLine s line)
   unfolding withLine
-  with-line-in line h = record { quiet-in = h; shift-in = ok .shift-in; modem-in = ok .modem-in }
+  with-line-in line h = record { quiet-in = h; shift-in = ok .shift-in; modem-in = ok .modem-in; flow-in = ok .flow-in }
 
   pub with-shift-in : (shift : Shift) → shift .byte < 256 → LinesIn (withShift s shift)
   unfolding withShift
-  with-shift-in shift h = record { quiet-in = ok .quiet-in; shift-in = h; modem-in = ok .modem-in }
+  with-shift-in shift h = record { quiet-in = ok .quiet-in; shift-in = h; modem-in = ok .modem-in; flow-in = ok .flow-in }
 
   pub with-modem-in : (modem : Modem) → ModemIn modem → LinesIn (withModem s modem)
   unfolding withModem
-  with-modem-in modem h = record { quiet-in = ok .quiet-in; shift-in = ok .shift-in; modem-in = h }
+  with-modem-in modem h = record { quiet-in = ok .quiet-in; shift-in = ok .shift-in; modem-in = h; flow-in = ok .flow-in }
 
   pub with-flags-in : (flags : Flags) → LinesIn (withFlags s flags)
   unfolding withFlags
-  with-flags-in flags = record { quiet-in = ok .quiet-in; shift-in = ok .shift-in; modem-in = ok .modem-in }
+  with-flags-in flags = record { quiet-in = ok .quiet-in; shift-in = ok .shift-in; modem-in = ok .modem-in; flow-in = ok .flow-in }
 
   pub with-latch-in : (latch : Bool) → LinesIn (withLatch s latch)
   unfolding withLatch
-  with-latch-in latch = record { quiet-in = ok .quiet-in; shift-in = ok .shift-in; modem-in = ok .modem-in }
+  with-latch-in latch = record { quiet-in = ok .quiet-in; shift-in = ok .shift-in; modem-in = ok .modem-in; flow-in = ok .flow-in }
+
+  pub with-flow-in : (flow : Flow) → flow .byte < 256 → LinesIn (withFlow s flow)
+  unfolding withFlow
+  with-flow-in flow h = record { quiet-in = ok .quiet-in; shift-in = ok .shift-in; modem-in = ok .modem-in; flow-in = h }
 
 -- ---- an act with what settles after it
 pub settled-in : (ch : Channel) (act : Act) → WellFormed ch → ActIn act → StepIn (settledOf ch act)
 unfolding settledOf
 settled-in ch act ok h =
+    let stored : SettingsIn (settingsBy ch act) = settings-in (ch .settings) (act .setting) (ok .settings-in) (h .setting-in) in
     record {
-      settings-in = settings-in (ch .settings) (act .setting) (ok .settings-in) (h .setting-in);
-      lines-in = with-latch-in _ (with-flags-in (act .state) (h .lines-in) _) _;
+      settings-in = stored;
+      lines-in =
+          with-flow-in _ (with-latch-in _ (with-flags-in (act .state) (h .lines-in) _) _) _
+          (settled-byte-in (act .state .flow) (h .lines-in .flow-in) (settingsBy ch act) (pairAt (settingsBy ch act) 2) _ (pair-in (settingsBy ch act) 2 stored));
       rx-in = h .rx-in;
       tx-in = h .tx-in;
       reply-in = h .reply-in;

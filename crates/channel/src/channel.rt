@@ -31,6 +31,7 @@ impl Channel {
             self.settings,
             self.state.line,
             self.state.modem,
+            self.state.flow,
             self.state.flags,
             Characters(self.rx.count),
             self.rx.any_mark(),
@@ -60,7 +61,7 @@ impl Channel {
             overrun: self.state.line.overrun,
             mark: oldest.mark,
             sent: sent,
-            idle: sent & !self.state.shift.full,
+            idle: sent & !self.state.shift.full & !self.state.flow.waits,
             error: self.rx.any_mark(),
         }
     }

@@ -1,4 +1,4 @@
-// What settles after the act of an event, whatever its kind: the latch, the RTS flag and the THR flag.
+// What settles after the act of an event, whatever its kind: the latch, the second latch, the RTS flag and the THR flag.
 use crate::channel::Channel;
 use crate::state::State;
 use interrupts::Moment;
@@ -76,10 +76,14 @@ impl Channel {
         let before = self.moment();
         let now = moment(settings, latch, act.state.shift, spaces(tx.count));
         let flagged = act.state.with_flags(act.state.flags.settled(before, now));
+        let received = Characters(rx.count);
+        let flow = act.state
+            .flow
+            .settled(self.settings, setting, settings, received);
         Step {
             sets: !register.is(Register::Closed),
             settings: settings,
-            state: flagged.with_latch(latch),
+            state: flagged.with_latch(latch).with_flow(flow),
             rx: rx,
             tx: tx,
             reply: act.reply,

@@ -1,10 +1,11 @@
 // The lines of a channel: all that it keeps beside its stored registers and its queues.
+use flow::Flow;
 use interrupts::Flags;
 use lines::Modem;
 use lines::Shift;
 use receiver::Line;
 ghost use mathlib.Core.Path.{_≡_};
-ghost use Rattle.channel.specs.State.{withLine, withShift, withModem, withFlags, withLatch};
+ghost use Rattle.channel.specs.State.{withLine, withShift, withModem, withFlags, withLatch, withFlow};
 
 #[repr(C)]
 pub struct State {
@@ -13,6 +14,7 @@ pub struct State {
     pub modem: Modem,
     pub flags: Flags,
     pub latch: bool,
+    pub flow: Flow,
 }
 
 impl State {
@@ -23,12 +25,14 @@ impl State {
         let modem = self.modem;
         let flags = self.flags;
         let latch = self.latch;
+        let flow = self.flow;
         State {
             line: line,
             shift: shift,
             modem: modem,
             flags: flags,
             latch: latch,
+            flow: flow,
         }
     }
 
@@ -39,12 +43,14 @@ impl State {
         let modem = self.modem;
         let flags = self.flags;
         let latch = self.latch;
+        let flow = self.flow;
         State {
             line: line,
             shift: shift,
             modem: modem,
             flags: flags,
             latch: latch,
+            flow: flow,
         }
     }
 
@@ -55,12 +61,14 @@ impl State {
         let shift = self.shift;
         let flags = self.flags;
         let latch = self.latch;
+        let flow = self.flow;
         State {
             line: line,
             shift: shift,
             modem: modem,
             flags: flags,
             latch: latch,
+            flow: flow,
         }
     }
 
@@ -71,12 +79,14 @@ impl State {
         let shift = self.shift;
         let modem = self.modem;
         let latch = self.latch;
+        let flow = self.flow;
         State {
             line: line,
             shift: shift,
             modem: modem,
             flags: flags,
             latch: latch,
+            flow: flow,
         }
     }
 
@@ -87,12 +97,32 @@ impl State {
         let shift = self.shift;
         let modem = self.modem;
         let flags = self.flags;
+        let flow = self.flow;
         State {
             line: line,
             shift: shift,
             modem: modem,
             flags: flags,
             latch: latch,
+            flow: flow,
+        }
+    }
+
+    pub fn with_flow(self, flow: Flow) -> State
+        ensures { λ r. ⌜ r ≡ withFlow self flow ⌝ }
+    {
+        let line = self.line;
+        let shift = self.shift;
+        let modem = self.modem;
+        let flags = self.flags;
+        let latch = self.latch;
+        State {
+            line: line,
+            shift: shift,
+            modem: modem,
+            flags: flags,
+            latch: latch,
+            flow: flow,
         }
     }
 }

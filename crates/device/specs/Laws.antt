@@ -26,7 +26,7 @@ use Rattle.registers.specs.Bounds.{SettingsIn}
 use Rattle.registers.specs.Laws.{same-is, zero-held, byte-held}
 use Rattle.channel.specs.declared.channel.Channel.{Channel}
 use Rattle.channel.specs.Channel as channel
-use Rattle.channel.specs.State.{LinesIn, withLine, withFlags, withLatch}
+use Rattle.channel.specs.State.{LinesIn, withLine, withFlags, withLatch, withFlow}
 use Rattle.acts.specs.Touches.{settingBy, receiveChange, sentBy, transmitChange, resetsBy}
 use Rattle.acts.specs.Acts.{actWith, writeAct, actOf}
 use Rattle.channel.specs.Settle.{settledOf, afterStep}
@@ -48,7 +48,7 @@ both-hold false y h = h
 -- a write to IOControl
 io-control-forgotten : (ch : Channel) (address byte : ℕ) → registerAt (ch .settings) address ≡ register.IoControl
     → (resetOf (touchedBy ch (touch.Write address byte)) ≡ resetOf ch) × (stepAt ch (touch.Write address byte) .reply ≡ 0)
-unfolding resetOf settingsReset afterStep stepAt settledOf actOf writeAct actWith settingBy receiveChange transmitChange sentBy settingOf ifSet withSetting clears movedBy staysAs clearsAll afterOf withLine withFlags withLatch
+unfolding resetOf settingsReset afterStep stepAt settledOf actOf writeAct actWith settingBy receiveChange transmitChange sentBy settingOf ifSet withSetting clears movedBy staysAs clearsAll afterOf withLine withFlags withLatch withFlow
 io-control-forgotten ch address byte e = rw e (refl, refl)
 
 pub reset-forgets : (ch : Channel) (t : Touch) → resetsBy (ch .settings) t ≡ true
@@ -141,7 +141,7 @@ blank-in =
 lines-reset-in : (pins : ℕ) → pins < 16 → LinesIn (linesReset pins)
 unfolding linesReset
 lines-reset-in pins h =
-    record { quiet-in = omega arith; shift-in = omega arith; modem-in = record { pins-in = h; changes-in = omega arith } }
+    record { quiet-in = omega arith; shift-in = omega arith; modem-in = record { pins-in = h; changes-in = omega arith }; flow-in = omega arith }
 
 well-formed-reset : (ch : Channel) → channel.WellFormed ch → channel.WellFormed (resetOf ch)
 unfolding resetOf clearsAll afterOf

@@ -15,11 +15,11 @@ resetLcr = 0x1D
 abbrev pub resetRegister : ℕ
 resetRegister = 0
 
--- "shift register, .. MSR 3:0, quiet count .. cleared"
+-- "shift register, .. MSR 3:0, quiet count .. cleared"; "drops what waits"
 abbrev pub resetCount : ℕ
 resetCount = 0
 
--- "shift register, overrun, .. and flags cleared"
+-- "shift register, overrun, .. and flags cleared"; "drops what waits ..; reset also resumes and clears the flag"
 abbrev pub resetFlag : Bool
 resetFlag = false
 
@@ -27,7 +27,7 @@ resetFlag = false
 abbrev pub resetThrFlag : Bool
 resetThrFlag = true
 
--- "auto-RTS latch asserted"
+-- "auto-RTS latch asserted"; ".. and sets the latch on", the second
 abbrev pub resetLatch : Bool
 resetLatch = true
 
@@ -65,6 +65,7 @@ linesReset pins =
       modem = record { pins = pins; changes = resetCount };
       flags = record { special = resetFlag; cts = resetFlag; rts = resetFlag; thr = resetThrFlag };
       latch = resetLatch;
+      flow = record { stopped = resetFlag; latch = resetLatch; waits = resetFlag; byte = resetCount };
     }
 
 -- "both queues .. cleared"

@@ -14,8 +14,10 @@ use Rattle.event.specs.declared.events.Touch.the-variants as touch
 use Rattle.registers.specs.declared.register.Register.the-variants as register
 use Rattle.registers.specs.Windows.{registerAt}
 use Rattle.registers.specs.Writes.{resetsDevice}
+use Rattle.registers.specs.Pairs.{choosesPair}
 use Rattle.lines.specs.Transmit.{spacesOf, allFree, thrCondition}
 use Rattle.lines.specs.Rts.{latchAfter}
+use Rattle.flow.specs.Flow.{flowSettled}
 use Rattle.channel.specs.declared.channel.Channel.{Channel}
 use Rattle.acts.specs.Touches.{resetsBy}
 use Rattle.acts.specs.Step.{touchedBy}
@@ -40,10 +42,10 @@ settled-with : (d : Device) (at : Side) (ch : Channel) → Settled d → channel
 settled-with d side.A ch h s = record { a-settled = s; b-settled = h .b-settled }
 settled-with d side.B ch h s = record { a-settled = h .a-settled; b-settled = s }
 
--- ---- a reset asserts the latch with EFR 6 clear, and sets the THR flag with the transmit queue empty
+-- ---- a reset asserts the latch with EFR 6 clear, has EFR send nothing, and sets the THR flag with the transmit queue empty
 settled-reset : (ch : Channel) → channel.Settled (resetOf ch)
-unfolding resetOf settingsReset linesReset latchAfter thrCondition allFree spacesOf clearsAll afterOf bitAt partAt
-settled-reset ch = record { latch-ruled = refl; thr-true = λ _. refl }
+unfolding resetOf settingsReset linesReset latchAfter flowSettled choosesPair thrCondition allFree spacesOf clearsAll afterOf bitAt partAt
+settled-reset ch = record { latch-ruled = refl; flow-ruled = refl; thr-true = λ _. refl }
 
 pub settled-reset-device : (d : Device) → Settled (resetDevice d)
 unfolding resetDevice

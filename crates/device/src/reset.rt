@@ -2,6 +2,7 @@
 use crate::device::Device;
 use channel::Channel;
 use channel::State;
+use flow::Flow;
 use interrupts::Flags;
 use lines::Modem;
 use lines::Shift;
@@ -17,14 +18,15 @@ impl Device {
     // IER, FCR, MCR, EFR, TCR, TLR and EFCR.
     pub const RESET_REGISTER: u8 = 0;
 
-    // MSR 3:0, the quiet count, and what an empty shift register holds.
+    // MSR 3:0, the quiet count, what an empty shift register holds, and the byte where none waits.
     pub const RESET_COUNT: u8 = 0;
 
-    // Overrun, a full shift register, and the special, CTS and RTS flags.
+    // Overrun, a full shift register, the special, CTS and RTS flags, a stop by Xoff, and a byte that waits.
     pub const RESET_FLAG: bool = false;
 
     pub const RESET_THR_FLAG: bool = true;
 
+    // Both latches.
     pub const RESET_LATCH: bool = true;
 
     // DLL, DLH, SPR, XON and XOFF and the pins, which a reset keeps, of a new device.
@@ -95,12 +97,19 @@ fn reset_lines(pins: u8) -> State
         rts: Device::RESET_FLAG,
         thr: Device::RESET_THR_FLAG,
     };
+    let flow = Flow {
+        stopped: Device::RESET_FLAG,
+        latch: Device::RESET_LATCH,
+        waits: Device::RESET_FLAG,
+        byte: Device::RESET_COUNT,
+    };
     State {
         line: line,
         shift: shift,
         modem: modem,
         flags: flags,
         latch: Device::RESET_LATCH,
+        flow: flow,
     }
 }
 

@@ -40,9 +40,13 @@ use Rattle.levels.proofs.transmits.Reads as levels-transmits
 use Rattle.levels.proofs.loads.Reads as levels-loads
 use Rattle.registers.proofs.register.Register.is.Reads as registers-register-is
 use Rattle.registers.proofs.settings.Setting.none.Reads as registers-setting-none
+use Rattle.registers.proofs.settings.Setting.held.Reads as registers-setting-held
 use Rattle.registers.proofs.settings.Settings.register.Reads as registers-settings-register
 use Rattle.registers.proofs.settings.Settings.written.Reads as registers-settings-written
 use Rattle.registers.proofs.settings.Settings.with.Reads as registers-settings-with
+use Rattle.registers.proofs.settings.Settings.pair.Reads as registers-settings-pair
+use Rattle.registers.proofs.settings.Settings.pair_with.Reads as registers-settings-pair-with
+use Rattle.registers.proofs.chooses_pair.Reads as registers-chooses-pair
 use Rattle.registers.proofs.resets_device.Reads as registers-resets-device
 use Rattle.receiver.proofs.arrival.Gate.passes.Reads as receiver-gate-passes
 use Rattle.receiver.proofs.arrived_byte.Reads as receiver-arrived-byte
@@ -67,6 +71,12 @@ use Rattle.lines.proofs.thr_condition.Reads as lines-thr-condition
 use Rattle.lines.proofs.transmit.Shift.loaded.Reads as lines-shift-loaded
 use Rattle.lines.proofs.transmit.Shift.busy.Reads as lines-shift-busy
 use Rattle.lines.proofs.transmit.Shift.leaving.Reads as lines-shift-leaving
+use Rattle.flow.proofs.flow.Flow.heard.Reads as flow-heard
+use Rattle.flow.proofs.flow.Flow.written.Reads as flow-written
+use Rattle.flow.proofs.flow.Flow.sends.Reads as flow-sends
+use Rattle.flow.proofs.flow.Flow.frees.Reads as flow-frees
+use Rattle.flow.proofs.flow.Flow.sent.Reads as flow-sent
+use Rattle.flow.proofs.flow.Flow.settled.Reads as flow-settled
 use Rattle.interrupts.proofs.flags.Flags.cleared.Reads as interrupts-flags-cleared
 use Rattle.interrupts.proofs.flags.Flags.arrived.Reads as interrupts-flags-arrived
 use Rattle.interrupts.proofs.flags.Flags.pins.Reads as interrupts-flags-pins
@@ -87,6 +97,7 @@ use Rattle.channel.proofs.state.State.with_shift.Reads as channel-state-with-sh
 use Rattle.channel.proofs.state.State.with_modem.Reads as channel-state-with-modem
 use Rattle.channel.proofs.state.State.with_flags.Reads as channel-state-with-flags
 use Rattle.channel.proofs.state.State.with_latch.Reads as channel-state-with-latch
+use Rattle.channel.proofs.state.State.with_flow.Reads as channel-state-with-flow
 use Rattle.acts.proofs.act.Reads as acts-act
 use Rattle.acts.proofs.step.Reads as acts-step
 use Rattle.device.proofs.device.Answer.number.Reads as device-answer-number
@@ -208,6 +219,9 @@ registers-register-is-determined = by-equation (λ a r s h. h)
 pub registers-setting-none-determined : Determined (registers-setting-none.Post tt)
 registers-setting-none-determined = by-equation (λ a r s h. h)
 
+pub registers-setting-held-determined : Determined (registers-setting-held.Post tt)
+registers-setting-held-determined = by-equation (λ a r s h. h)
+
 pub registers-settings-register-determined : Determined (registers-settings-register.Post tt)
 registers-settings-register-determined = by-equation (λ a r s h. h)
 
@@ -216,6 +230,15 @@ registers-settings-written-determined = by-equation (λ a r s h. h)
 
 pub registers-settings-with-determined : Determined (registers-settings-with.Post tt)
 registers-settings-with-determined = by-equation (λ a r s h. h)
+
+pub registers-settings-pair-determined : Determined (registers-settings-pair.Post tt)
+registers-settings-pair-determined = by-equation (λ a r s h. h)
+
+pub registers-settings-pair-with-determined : Determined (registers-settings-pair-with.Post tt)
+registers-settings-pair-with-determined = by-equation (λ a r s h. h)
+
+pub registers-chooses-pair-determined : Determined (registers-chooses-pair.Post tt)
+registers-chooses-pair-determined = by-equation (λ a r s h. h)
 
 pub registers-resets-device-determined : Determined (registers-resets-device.Post tt)
 registers-resets-device-determined = by-equation (λ a r s h. h)
@@ -289,6 +312,24 @@ lines-shift-busy-determined = by-equation (λ a r s h. h)
 pub lines-shift-leaving-determined : Determined (lines-shift-leaving.Post tt)
 lines-shift-leaving-determined = by-equation (λ a r s h. h)
 
+pub flow-heard-determined : Determined (flow-heard.Post tt)
+flow-heard-determined = by-equation (λ a r s h. h)
+
+pub flow-written-determined : Determined (flow-written.Post tt)
+flow-written-determined = by-equation (λ a r s h. h)
+
+pub flow-sends-determined : Determined (flow-sends.Post tt)
+flow-sends-determined = by-equation (λ a r s h. h)
+
+pub flow-frees-determined : Determined (flow-frees.Post tt)
+flow-frees-determined = by-equation (λ a r s h. h)
+
+pub flow-sent-determined : Determined (flow-sent.Post tt)
+flow-sent-determined = by-equation (λ a r s h. h)
+
+pub flow-settled-determined : Determined (flow-settled.Post tt)
+flow-settled-determined = by-equation (λ a r s h. h)
+
 pub interrupts-flags-cleared-determined : Determined (interrupts-flags-cleared.Post tt)
 interrupts-flags-cleared-determined = by-equation (λ a r s h. h)
 
@@ -348,6 +389,9 @@ channel-state-with-flags-determined = by-equation (λ a r s h. h)
 
 pub channel-state-with-latch-determined : Determined (channel-state-with-latch.Post tt)
 channel-state-with-latch-determined = by-equation (λ a r s h. h)
+
+pub channel-state-with-flow-determined : Determined (channel-state-with-flow.Post tt)
+channel-state-with-flow-determined = by-equation (λ a r s h. h)
 
 pub acts-act-determined : Determined (acts-act.Post tt)
 acts-act-determined = by-equation (λ a r s h. h)

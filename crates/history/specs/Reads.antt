@@ -108,6 +108,8 @@ fate-kept ch byte mark = go (heardOf (ch .settings) byte mark .gate) (arrivedCha
     go gate.Passes c = ap (fateNumber gate.Passes) (added-kept (ch .rx) c (roomOf (ch .settings)))
     go gate.Off c = refl
     go gate.Elsewhere c = refl
+    go gate.Xoff c = refl
+    go gate.Xon c = refl
 
 -- only a read of the receive register takes a character, and it replies with the oldest
 pub taken-reply : (ch : Channel) (t : Touch) → receiveChange (ch .settings) t ≡ Take → stepAt ch t .reply ≡ oldestOf (ch .rx) .byte

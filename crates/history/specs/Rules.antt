@@ -21,11 +21,12 @@ use Rattle.registers.specs.declared.settings.Setting.{Setting}
 use Rattle.registers.specs.declared.settings.Settings.{Settings}
 use Rattle.registers.specs.Windows.{same, tcrOpen, generalAt, enhancedAt, divisorAt, registerAt}
 use Rattle.registers.specs.Writes.{noSetting, withSetting, resetsDevice}
+use Rattle.registers.specs.Pairs.{choosesPair, choosesFirst, pairAt}
 use Rattle.levels.specs.Queues.{roomOf, fifoChanges, clears}
 use Rattle.registers.specs.Laws.{closed-sets-none}
 use Rattle.receiver.specs.declared.arrival.Gate.{Gate}
 use Rattle.receiver.specs.declared.arrival.Gate.the-variants as gate
-use Rattle.receiver.specs.Arrivals.{modeOf, arrivedByte, equalsXoff2, doesPass, unlessOff, receiverSet, heardPlain, asData, heardNinth, heardAddress, heardOf}
+use Rattle.receiver.specs.Arrivals.{modeOf, arrivedByte, equalsXoff2, doesPass, unlessOff, receiverSet, specialMatch, takenAs, comparedAs, gatePlain, heardPlain, asData, heardNinth, heardAddress, heardOf}
 use Rattle.receiver.specs.Line.{fateNumber}
 use Rattle.acts.specs.Touches.{settingBy, settingsAfter, receiveChange, resetsBy}
 use Rattle.device.specs.declared.side.Side.{Side}
@@ -111,6 +112,18 @@ roomFate l = pick (ltb (queued (l .tally)) (pick (bitAt (l .own .fcr) 0) 64 1)) 
 abbrev pub dataFate : Ledger → ℕ
 dataFate l = pick (bitAt (l .own .efcr) 1) 2 (roomFate l)
 
+-- a character that equals the Xoff or the Xon of the pair that is compared: "EFR 1:0 of 10 compares XON1 and XOFF1, 01 the second
+-- pair, 00 and 11 nothing yet"
+abbrev pub equalsFlow : Settings → ℕ → Bool
+equalsFlow s character =
+    pick (eqb (partAt (s .efr) 0 2) 2) (eqb character (s .xoff1) || eqb character (s .xon1))
+    (eqb (partAt (s .efr) 0 2) 1 && (eqb character (s .xoff2) || eqb character (s .xon2)))
+
+-- "a passing, unmarked character that wasn't a special match and equals, cut, the whole Xoff ..; one equal to Xon"
+abbrev pub isTaken : Settings → ℕ → ℕ → Bool
+isTaken s byte mark =
+    eqb mark 0 && not (bitAt (s .efr) 5 && eqb (asQueued s byte mark) (s .xoff2)) && equalsFlow s (asQueued s byte mark)
+
 module _ (l : Ledger) (byte mark : ℕ) where
   -- what passes unless the receiver is off
   unless-off : fateNumber (unlessOff (l .own)) (keeps (l .tally) (roomOf (l .own))) ≡ dataFate l
@@ -121,10 +134,49 @@ module _ (l : Ledger) (byte mark : ℕ) where
       go true = refl
       go false = refl
 
-  -- "EFCR 0 clear: dropped (2) if EFCR 1 is set. Otherwise it passes"
-  pub fate-plain : bitAt (l .own .efcr) 0 ≡ false → fateBy l byte mark ≡ dataFate l
-  unfolding heardOf modeOf heardPlain
-  fate-plain plain = rw plain unless-off
+  -- "EFCR 0 clear: dropped (2) if EFCR 1 is set. Otherwise it passes"; Xoff and Xon: "Neither is queued: new fate 4."
+  pub fate-plain : bitAt (l .own .efcr) 0 ≡ false
+      → fateBy l byte mark ≡ pick (bitAt (l .own .efcr) 1) 2 (pick (isTaken (l .own) byte mark) 4 (roomFate l))
+  unfolding heardOf modeOf heardPlain gatePlain choosesPair comparedAs specialMatch equalsXoff2 takenAs pairAt choosesFirst arrivedByte cutTo fateNumber roomOf
+  fate-plain plain =
+      rw plain
+      (go (bitAt (l .own .efcr) 1) (eqb (partAt (l .own .efr) 0 2) 2) (eqb (partAt (l .own .efr) 0 2) 1) (eqb mark 0)
+      (bitAt (l .own .efr) 5 && eqb (asQueued (l .own) byte mark) (l .own .xoff2)))
+    where
+      character : ℕ
+      character = asQueued (l .own) byte mark
+
+      by-pair : (xoff xon : Bool) → fateNumber (pick xoff gate.Xoff (pick xon gate.Xon gate.Passes)) (keeps (l .tally) (roomOf (l .own))) ≡ pick (xoff || xon) 4 (roomFate l)
+      by-pair true xon = refl
+      by-pair false true = refl
+      by-pair false false = refl
+
+      go : (off first second unmarked special : Bool)
+          → fateNumber
+          (pick off gate.Off
+          (pick (first || second)
+          (pick (unmarked && not special)
+          (pick (eqb character (pick first (l .own .xoff1) (l .own .xoff2))) gate.Xoff
+          (pick (eqb character (pick first (l .own .xon1) (l .own .xon2))) gate.Xon gate.Passes))
+          gate.Passes)
+          gate.Passes))
+          (keeps (l .tally) (roomOf (l .own)))
+          ≡ pick off 2
+          (pick
+          (unmarked && not special
+          && pick first (eqb character (l .own .xoff1) || eqb character (l .own .xon1))
+          (second && (eqb character (l .own .xoff2) || eqb character (l .own .xon2))))
+          4 (roomFate l))
+      go true first second unmarked special = refl
+      go false true second true false = by-pair (eqb character (l .own .xoff1)) (eqb character (l .own .xon1))
+      go false true second true true = refl
+      go false true second false special = refl
+      go false false true true false = by-pair (eqb character (l .own .xoff2)) (eqb character (l .own .xon2))
+      go false false true true true = refl
+      go false false true false special = refl
+      go false false false true true = refl
+      go false false false true false = refl
+      go false false false false special = refl
 
   -- "EFCR 0 set, EFR 5 clear: ninth bit 1 passes; ninth bit 0 passes unless EFCR 1 is set (2)."
   pub fate-ninth : bitAt (l .own .efcr) 0 ≡ true → bitAt (l .own .efr) 5 ≡ false → fateBy l byte mark ≡ pick (bitAt mark 0) (roomFate l) (dataFate l)
@@ -237,6 +289,8 @@ offered-by l byte mark = go (heardOf (l .own) byte mark .gate) (keeps (l .tally)
     go gate.Passes false = refl
     go gate.Off kept = refl
     go gate.Elsewhere kept = refl
+    go gate.Xoff kept = refl
+    go gate.Xon kept = refl
 
 touch-change : (own : Bool) (l : Ledger) (t : Touch) → changeBy (l .own) (namedEffect own l t) ≡ touchChange own l t
 unfolding resetsBy receiveChange
@@ -277,6 +331,8 @@ kept-exactly l byte mark = rw (offered-by l byte mark) (go (heardOf (l .own) byt
     go gate.Passes false e = rw e
     go gate.Off kept e = refl
     go gate.Elsewhere kept e = refl
+    go gate.Xoff kept e = refl
+    go gate.Xon kept e = refl
 
 -- ---- the stored registers after an arrival: EFCR 0 and EFR 5 set, "ninth bit 1 and equal to XOFF2 clears EFCR 1 ..; ninth bit 1 and
 -- unequal sets EFCR 1"; no other arrival sets any

@@ -14,16 +14,18 @@ use Rattle.file.specs.declared.number.Number.the-variants as number
 use Rattle.file.specs.Numbers.{secondAt, numberAt}
 use Rattle.registers.specs.Windows.{generalAt, enhancedAt, registerAt, tcrOpen}
 use Rattle.registers.specs.Writes.{guardOpen, ierWritten, fcrWritten, efcrWritten, takenBy, noSetting, settingOf, ifSet, withSetting, resetsDevice}
+use Rattle.registers.specs.Pairs.{choosesPair}
 use Rattle.levels.specs.Levels.{fours, transmitLevel}
 use Rattle.levels.specs.Queues.{roomOf, fifoChanges, clears}
-use Rattle.receiver.specs.Arrivals.{modeOf, arrivedByte, equalsXoff2, doesPass, unlessOff, receiverSet, heardPlain, heardNinth, heardAddress, heardOf}
+use Rattle.receiver.specs.Arrivals.{modeOf, arrivedByte, equalsXoff2, doesPass, unlessOff, receiverSet, gatePlain, heardPlain, heardNinth, heardAddress, heardOf}
 use Rattle.receiver.specs.Line.{lineArrived, lineRead, lineCleared, fateNumber, lsrOf}
 use Rattle.lines.specs.Transmit.{spacesOf, allFree, isBusy, thrCondition}
 use Rattle.lines.specs.Rts.{latchDriven, latchAfter, rtsOf}
 use Rattle.lines.specs.Modem.{modemRead}
+use Rattle.flow.specs.Flow.{flowHeard, flowWritten, flowSettled}
 use Rattle.interrupts.specs.Interrupts.{codeOf, lineStatusPending, timeoutPending, receivePending, transmitPending, modemPending, specialPending, flowPending, pendingOf, iirOf}
 use Rattle.interrupts.specs.Flags.{flagsCleared, flagsArrived, thrSettled, flagsSettled}
-use Rattle.channel.specs.State.{withLine, withModem, withFlags, withLatch}
+use Rattle.channel.specs.State.{withLine, withModem, withFlags, withLatch, withFlow}
 use Rattle.channel.specs.Channel.{pendingAt, shownAt, statusOf, readOf}
 use Rattle.acts.specs.Touches.{settingBy, receiveChange, sentBy, transmitChange, resetsBy}
 use Rattle.acts.specs.Acts.{actWith, writeAct, readAct, arrivalAct, actOf}
@@ -112,5 +114,5 @@ table =
     ∷ []
 
 pub cases-hold : map (λ row. row .given) table ≡ map (λ row. row .expected) table
-unfolding table oneIf differs bitAt partAt replacedAt cutTo emptyQueue oldestOf markedFrom anyMarkOf addsTo takesFrom clearsAll staysAs movedBy afterOf secondAt numberAt generalAt enhancedAt registerAt tcrOpen guardOpen ierWritten fcrWritten efcrWritten takenBy noSetting settingOf ifSet withSetting resetsDevice modeOf arrivedByte equalsXoff2 doesPass unlessOff receiverSet heardPlain heardNinth heardAddress heardOf roomOf fours transmitLevel fifoChanges clears lineArrived lineRead lineCleared fateNumber lsrOf spacesOf allFree isBusy thrCondition latchDriven latchAfter rtsOf modemRead codeOf lineStatusPending timeoutPending receivePending transmitPending modemPending specialPending flowPending pendingOf iirOf flagsCleared flagsArrived thrSettled flagsSettled withLine withModem withFlags withLatch pendingAt shownAt statusOf readOf settingBy receiveChange sentBy transmitChange resetsBy actWith writeAct readAct arrivalAct actOf momentOf momentAt settledOf stepAt afterStep settingsReset linesReset resetOf blankSettings blankChannel resetDevice newDevice sideNumbered touchedAt namedStep stepOf
+unfolding table oneIf differs bitAt partAt replacedAt cutTo emptyQueue oldestOf markedFrom anyMarkOf addsTo takesFrom clearsAll staysAs movedBy afterOf secondAt numberAt generalAt enhancedAt registerAt tcrOpen guardOpen ierWritten fcrWritten efcrWritten takenBy noSetting settingOf ifSet withSetting choosesPair resetsDevice modeOf arrivedByte equalsXoff2 doesPass unlessOff receiverSet gatePlain heardPlain heardNinth heardAddress heardOf roomOf fours transmitLevel fifoChanges clears lineArrived lineRead lineCleared fateNumber lsrOf spacesOf allFree isBusy thrCondition latchDriven latchAfter rtsOf modemRead flowHeard flowWritten flowSettled codeOf lineStatusPending timeoutPending receivePending transmitPending modemPending specialPending flowPending pendingOf iirOf flagsCleared flagsArrived thrSettled flagsSettled withLine withModem withFlags withLatch withFlow pendingAt shownAt statusOf readOf settingBy receiveChange sentBy transmitChange resetsBy actWith writeAct readAct arrivalAct actOf momentOf momentAt settledOf stepAt afterStep settingsReset linesReset resetOf blankSettings blankChannel resetDevice newDevice sideNumbered touchedAt namedStep stepOf
 cases-hold = refl

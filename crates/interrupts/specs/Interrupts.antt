@@ -9,6 +9,7 @@ use Rattle.levels.specs.declared.trigger.Characters.{Characters}
 use Rattle.levels.specs.Levels.{receiveLevel}
 use Rattle.receiver.specs.declared.line.Line.{Line}
 use Rattle.lines.specs.declared.modem.Modem.{Modem}
+use Rattle.flow.specs.declared.flow.Flow.{Flow}
 use Rattle.interrupts.specs.declared.flags.Flags.{Flags}
 use Rattle.interrupts.specs.declared.interrupt.Interrupt.{Interrupt}
 use Rattle.interrupts.specs.declared.interrupt.Interrupt.the-variants as interrupt
@@ -56,23 +57,23 @@ transmitPending s flags = bitAt (s .ier) 1 && flags .thr
 unfoldable pub modemPending : Settings → Modem → Bool
 modemPending s modem = bitAt (s .ier) 3 && modemChanged s modem
 
--- 10: "IER 5 and special flag"
-unfoldable pub specialPending : Settings → Flags → Bool
-specialPending s flags = bitAt (s .ier) 5 && flags .special
+-- 10: "IER 5 and special flag"; "Code 10 is now pending on either flag"
+unfoldable pub specialPending : Settings → Flow → Flags → Bool
+specialPending s flow flags = bitAt (s .ier) 5 && (flags .special || flow .stopped)
 
 -- 20: "IER 7 and CTS flag, or IER 6 and RTS flag"
 unfoldable pub flowPending : Settings → Flags → Bool
 flowPending s flags = bitAt (s .ier) 7 && flags .cts || bitAt (s .ier) 6 && flags .rts
 
 -- "highest first"
-unfoldable pub pendingOf : Settings → Line → Modem → Flags → Characters → Bool → Interrupt
-pendingOf s line modem flags received error =
+unfoldable pub pendingOf : Settings → Line → Modem → Flow → Flags → Characters → Bool → Interrupt
+pendingOf s line modem flow flags received error =
     pick (lineStatusPending s line error) interrupt.LineStatus
     (pick (timeoutPending s line received) interrupt.Timeout
     (pick (receivePending s received) interrupt.Receive
     (pick (transmitPending s flags) interrupt.Transmit
     (pick (modemPending s modem) interrupt.Modem
-    (pick (specialPending s flags) interrupt.Special
+    (pick (specialPending s flow flags) interrupt.Special
     (pick (flowPending s flags) interrupt.Flow interrupt.Nothing))))))
 
 -- "IIR is C0 (if FCR 0) plus the code"

@@ -4,6 +4,7 @@ use bits::bit;
 use bits::chosen;
 use bits::joined;
 use bits::part;
+use flow::Flow;
 use levels::Characters;
 use levels::receive_level;
 use lines::Modem;
@@ -101,13 +102,13 @@ fn modem_status(settings: Settings, modem: Modem) -> bool
     bit(settings.ier, 3) & modem_changed(settings, modem)
 }
 
-fn special(settings: Settings, flags: Flags) -> bool
-    ensures { λ r. ⌜ r ≡ specialPending settings flags ⌝ }
+fn special(settings: Settings, flow: Flow, flags: Flags) -> bool
+    ensures { λ r. ⌜ r ≡ specialPending settings flow flags ⌝ }
 {
-    bit(settings.ier, 5) & flags.special
+    bit(settings.ier, 5) & (flags.special | flow.stopped)
 }
 
-fn flow(settings: Settings, flags: Flags) -> bool
+fn hardware_flow(settings: Settings, flags: Flags) -> bool
     ensures { λ r. ⌜ r ≡ flowPending settings flags ⌝ }
 {
     (bit(settings.ier, 7) & flags.cts) | (bit(settings.ier, 6) & flags.rts)
@@ -118,11 +119,12 @@ pub fn pending(
     settings: Settings,
     line: Line,
     modem: Modem,
+    flow: Flow,
     flags: Flags,
     received: Characters,
     error: bool,
 ) -> Interrupt
-    ensures { λ r. ⌜ r ≡ pendingOf settings line modem flags received error ⌝ }
+    ensures { λ r. ⌜ r ≡ pendingOf settings line modem flow flags received error ⌝ }
 {
     if line_status(settings, line, error) {
         return Interrupt::LineStatus;
@@ -139,10 +141,10 @@ pub fn pending(
     if modem_status(settings, modem) {
         return Interrupt::Modem;
     }
-    if special(settings, flags) {
+    if special(settings, flow, flags) {
         return Interrupt::Special;
     }
-    if flow(settings, flags) {
+    if hardware_flow(settings, flags) {
         return Interrupt::Flow;
     }
     Interrupt::Nothing

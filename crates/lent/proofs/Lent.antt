@@ -63,14 +63,14 @@ state =
     field-of K.struct K.propositions K′.the-laws (λ _. tt) 1 15 X.the-row (λ x. x) (λ x. x)
     (own-same X.the-type) (λ x b o. sym (own-same X.the-type x b o)) refl refl
 
-abbrev pub rx : FieldOf K.the-row Q.the-row 26
+abbrev pub rx : FieldOf K.the-row Q.the-row 30
 rx =
-    field-of K.struct K.propositions K′.the-laws (λ _. tt) 2 26 Q.the-row (λ x. x) (λ x. x)
+    field-of K.struct K.propositions K′.the-laws (λ _. tt) 2 30 Q.the-row (λ x. x) (λ x. x)
     (own-same Q.the-type) (λ x b o. sym (own-same Q.the-type x b o)) refl refl
 
-abbrev pub tx : FieldOf K.the-row Q.the-row 156
+abbrev pub tx : FieldOf K.the-row Q.the-row 160
 tx =
-    field-of K.struct K.propositions K′.the-laws (λ _. tt) 3 156 Q.the-row (λ x. x) (λ x. x)
+    field-of K.struct K.propositions K′.the-laws (λ _. tt) 3 160 Q.the-row (λ x. x) (λ x. x)
     (own-same Q.the-type) (λ x b o. sym (own-same Q.the-type x b o)) refl refl
 
 -- ---- the channels of a device
@@ -79,7 +79,7 @@ a =
     field-of D.struct D.propositions D′.the-laws (λ _. tt) 0 0 K.the-row (λ x. x) (λ x. x)
     (own-same K.the-type) (λ x b o. sym (own-same K.the-type x b o)) refl refl
 
-abbrev pub b : FieldOf D.the-row K.the-row 286
+abbrev pub b : FieldOf D.the-row K.the-row 290
 b =
-    field-of D.struct D.propositions D′.the-laws (λ _. tt) 1 286 K.the-row (λ x. x) (λ x. x)
+    field-of D.struct D.propositions D′.the-laws (λ _. tt) 1 290 K.the-row (λ x. x) (λ x. x)
     (own-same K.the-type) (λ x b o. sym (own-same K.the-type x b o)) refl refl

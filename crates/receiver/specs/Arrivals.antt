@@ -7,7 +7,9 @@ use Rattle.bits.specs.Bits.{bitAt, replacedAt, cutTo}
 use Rattle.registers.specs.declared.register.Register.the-variants as register
 use Rattle.registers.specs.declared.settings.Setting.{Setting}
 use Rattle.registers.specs.declared.settings.Settings.{Settings}
+use Rattle.registers.specs.declared.pair.Pair.{Pair}
 use Rattle.registers.specs.Writes.{noSetting}
+use Rattle.registers.specs.Pairs.{choosesPair, pairAt}
 use Rattle.receiver.specs.declared.arrival.Gate.{Gate}
 use Rattle.receiver.specs.declared.arrival.Gate.the-variants as gate
 use Rattle.receiver.specs.declared.arrival.Heard.{Heard}
@@ -30,6 +32,8 @@ unfoldable pub doesPass : Gate → Bool
 doesPass gate.Passes = true
 doesPass gate.Off = false
 doesPass gate.Elsewhere = false
+doesPass gate.Xoff = false
+doesPass gate.Xon = false
 
 -- "passes unless EFCR 1 is set (2)"
 unfoldable pub unlessOff : Settings → Gate
@@ -39,13 +43,31 @@ unlessOff s = pick (bitAt (s .efcr) 1) gate.Off gate.Passes
 unfoldable pub receiverSet : Settings → ℕ → Setting
 receiverSet s byte = record { register = register.Efcr; byte = replacedAt (s .efcr) byte 1 1 }
 
--- "EFCR 0 clear: dropped (2) if EFCR 1 is set. Otherwise it passes, and if EFR 5 is set and it equals XOFF2 the special flag
--- is set."
+-- "EFR 5 is set and it equals XOFF2"
+unfoldable pub specialMatch : Settings → ℕ → ℕ → Bool
+specialMatch s byte mark = bitAt (s .efr) 5 && equalsXoff2 s byte mark
+
+-- ".. and equals, cut, the whole Xoff ..; one equal to Xon .. If the two are equal, Xoff decides."
+unfoldable pub takenAs : Pair → ℕ → Gate
+takenAs pair character = pick (eqb character (pair .xoff)) gate.Xoff (pick (eqb character (pair .xon)) gate.Xon gate.Passes)
+
+-- "a passing, unmarked character that wasn't a special match" is so compared
+unfoldable pub comparedAs : Settings → ℕ → ℕ → Gate
+comparedAs s byte mark =
+    pick (eqb mark 0 && not (specialMatch s byte mark)) (takenAs (pairAt s 0) (arrivedByte s byte mark)) gate.Passes
+
+-- "EFCR 0 clear: dropped (2) if EFCR 1 is set. Otherwise it passes"; "EFR 1:0 of 10 compares .., 01 the second pair, 00 and 11
+-- nothing yet"
+unfoldable pub gatePlain : Settings → ℕ → ℕ → Gate
+gatePlain s byte mark =
+    pick (bitAt (s .efcr) 1) gate.Off (pick (choosesPair (s .efr) 0) (comparedAs s byte mark) gate.Passes)
+
+-- ".. it passes, and if EFR 5 is set and it equals XOFF2 the special flag is set."
 unfoldable pub heardPlain : Settings → ℕ → ℕ → Heard
 heardPlain s byte mark =
     record {
-      gate = unlessOff s;
-      special = not (bitAt (s .efcr) 1) && bitAt (s .efr) 5 && equalsXoff2 s byte mark;
+      gate = gatePlain s byte mark;
+      special = not (bitAt (s .efcr) 1) && specialMatch s byte mark;
       setting = noSetting;
     }
 

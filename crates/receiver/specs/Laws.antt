@@ -77,12 +77,14 @@ unfolding arrivedByte
 arrived-fits s byte mark fits =
     cut-fits (pick (bitAt mark 2) 0 byte) (s .lcr) (pick-by (λ (n : ℕ). n < 256) (bitAt mark 2) (λ _. omega arith) (λ _. fits))
 
-pub fate-in : (g : Gate) (kept : Bool) → fateNumber g kept ≤ 3
+pub fate-in : (g : Gate) (kept : Bool) → fateNumber g kept ≤ 4
 unfolding fateNumber
 fate-in gate.Passes true = omega arith
 fate-in gate.Passes false = omega arith
 fate-in gate.Off kept = omega arith
 fate-in gate.Elsewhere kept = omega arith
+fate-in gate.Xoff kept = omega arith
+fate-in gate.Xon kept = omega arith
 
 lsr-sum-in : (a b m c d e : ℕ) → a ≤ 1 → b ≤ 1 → m < 8 → c ≤ 1 → d ≤ 1 → e ≤ 1 → a + b * 2 + m * 4 + c * 32 + d * 64 + e * 128 < 256
 lsr-sum-in a b m c d e ha hb hm hc hd he = omega arith

@@ -29,11 +29,14 @@ lineCleared l clears = record { overrun = l .overrun; quiet = pick clears 0 (l .
 unfoldable pub lineQuieter : Line → Line
 lineQuieter l = record { overrun = l .overrun; quiet = l .quiet + oneIf (ltb (l .quiet) 4) }
 
--- "Fates: 0 kept, 1 lost for want of room, 2 dropped by a disabled receiver, 3 dropped by address."
+-- "Fates: 0 kept, 1 lost for want of room, 2 dropped by a disabled receiver, 3 dropped by address."; Xoff and Xon: "Neither is
+-- queued: new fate 4."
 unfoldable pub fateNumber : Gate → Bool → ℕ
 fateNumber gate.Passes kept = pick kept 0 1
 fateNumber gate.Off kept = 2
 fateNumber gate.Elsewhere kept = 3
+fateNumber gate.Xoff kept = 4
+fateNumber gate.Xon kept = 4
 
 -- "LSR: bit 0 queue not empty; 1 overrun ..; 4:2 marks of the oldest (break, framing, parity); 5 transmit queue empty;
 -- 6 that and shift register empty; 7 some queued mark not 0."

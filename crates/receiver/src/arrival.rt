@@ -3,17 +3,21 @@ use bits::bit;
 use bits::chosen;
 use bits::cut;
 use bits::replaced;
+use registers::Pair;
 use registers::Register;
 use registers::Setting;
 use registers::Settings;
+use registers::chooses_pair;
 ghost use mathlib.Core.Path.{_≡_};
-ghost use Rattle.receiver.specs.Arrivals.{modeOf, arrivedByte, equalsXoff2, unlessOff, doesPass, asData, receiverSet, heardPlain, heardNinth, heardAddress, heardOf};
+ghost use Rattle.receiver.specs.Arrivals.{modeOf, arrivedByte, equalsXoff2, unlessOff, doesPass, asData, receiverSet, specialMatch, takenAs, comparedAs, gatePlain, heardPlain, heardNinth, heardAddress, heardOf};
 
-// An arrival passes, or is dropped by a disabled receiver, or by address.
+// An arrival passes, or is dropped by a disabled receiver, or by address, or is taken as Xoff or Xon.
 pub enum Gate {
     Passes,
     Off,
     Elsewhere,
+    Xoff,
+    Xon,
 }
 
 // How the receiver takes the ninth bit: not at all, as a mark, or as that of an address.
@@ -38,6 +42,8 @@ impl Gate {
             Gate::Passes => true,
             Gate::Off => false,
             Gate::Elsewhere => false,
+            Gate::Xoff => false,
+            Gate::Xon => false,
         }
     }
 }
@@ -86,12 +92,53 @@ fn receiver_set(settings: Settings, off: u8) -> Setting
     }
 }
 
+fn special_match(settings: Settings, byte: u8, mark: u8) -> bool
+    ensures { λ r. ⌜ r ≡ specialMatch settings byte mark ⌝ }
+{
+    bit(settings.efr, 5) & equals_xoff2(settings, byte, mark)
+}
+
+// What a character is taken for by the pair that it is compared with.
+fn taken_as(pair: Pair, character: u8) -> Gate
+    ensures { λ r. ⌜ r ≡ takenAs pair character ⌝ }
+{
+    if character == pair.xoff {
+        return Gate::Xoff;
+    }
+    if character == pair.xon {
+        return Gate::Xon;
+    }
+    Gate::Passes
+}
+
+// A passing character where a pair is compared: one without a mark that is no special match.
+fn compared_as(settings: Settings, byte: u8, mark: u8) -> Gate
+    ensures { λ r. ⌜ r ≡ comparedAs settings byte mark ⌝ }
+{
+    if (mark == 0) & !special_match(settings, byte, mark) {
+        return taken_as(settings.pair(0), arrived_byte(settings, byte, mark));
+    }
+    Gate::Passes
+}
+
+fn gate_plain(settings: Settings, byte: u8, mark: u8) -> Gate
+    ensures { λ r. ⌜ r ≡ gatePlain settings byte mark ⌝ }
+{
+    if bit(settings.efcr, 1) {
+        return Gate::Off;
+    }
+    if chooses_pair(settings.efr, 0) {
+        return compared_as(settings, byte, mark);
+    }
+    Gate::Passes
+}
+
 fn heard_plain(settings: Settings, byte: u8, mark: u8) -> Heard
     ensures { λ r. ⌜ r ≡ heardPlain settings byte mark ⌝ }
 {
     Heard {
-        gate: unless_off(settings),
-        special: !bit(settings.efcr, 1) & bit(settings.efr, 5) & equals_xoff2(settings, byte, mark),
+        gate: gate_plain(settings, byte, mark),
+        special: !bit(settings.efcr, 1) & special_match(settings, byte, mark),
         setting: Setting::none(),
     }
 }

@@ -71,6 +71,8 @@ pub fn fate(gate: Gate, kept: bool) -> u16
         }
         Gate::Off => 2,
         Gate::Elsewhere => 3,
+        Gate::Xoff => 4,
+        Gate::Xon => 4,
     }
 }
 

@@ -5,6 +5,7 @@ use mathlib.Core.Bool.{true}
 use Rattle.bits.specs.Bits.{partAt}
 use Rattle.registers.specs.declared.register.Register.{Register}
 use Rattle.registers.specs.declared.register.Register.the-variants as register
+use Rattle.registers.specs.declared.pair.Pair.{Pair}
 use Rattle.registers.specs.declared.settings.Setting.{Setting}
 use Rattle.registers.specs.declared.settings.Settings.{Settings}
 use Rattle.registers.specs.Windows.{same}
@@ -37,3 +38,8 @@ pub record SettingsIn (s : Settings) : Type 0 where
   pub xon2-in : MayHold register.Xon2 (s .xon2)
   pub xoff1-in : MayHold register.Xoff1 (s .xoff1)
   pub xoff2-in : MayHold register.Xoff2 (s .xoff2)
+
+-- a pair of bytes
+pub record PairIn (pair : Pair) : Type 0 where
+  pub xon-in : pair .xon < 256
+  pub xoff-in : pair .xoff < 256

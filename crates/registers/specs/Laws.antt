@@ -16,7 +16,8 @@ use Rattle.registers.specs.declared.settings.Setting.{Setting}
 use Rattle.registers.specs.declared.settings.Settings.{Settings}
 use Rattle.registers.specs.Windows.{place, same}
 use Rattle.registers.specs.Writes.{guardOpen, ierWritten, fcrWritten, mcrWritten, efcrWritten, divisorWritten, takenBy, noSetting, settingOf, ifSet, withSetting}
-use Rattle.registers.specs.Bounds.{MayHold, SettingIn, SettingsIn}
+use Rattle.registers.specs.Pairs.{choosesFirst, pairAt}
+use Rattle.registers.specs.Bounds.{MayHold, SettingIn, SettingsIn, PairIn}
 
 -- ---- two registers of one place are one
 abbrev byPlace : List Register
@@ -185,3 +186,12 @@ module _ (s : Settings) (set : Setting) (ok : SettingsIn s) (set-in : SettingIn 
         xoff1-in = held-set register.Xoff1 (s .xoff1) (ok .xoff1-in);
         xoff2-in = held-set register.Xoff2 (s .xoff2) (ok .xoff2-in);
       }
+
+-- and so has every pair of what is stored
+pub pair-in : (s : Settings) (place : ℕ) → SettingsIn s → PairIn (pairAt s place)
+unfolding pairAt
+pair-in s place ok =
+    record {
+      xon-in = pick-by (λ (n : ℕ). n < 256) (choosesFirst (s .efr) place) (λ _. ok .xon1-in .byte-in) (λ _. ok .xon2-in .byte-in);
+      xoff-in = pick-by (λ (n : ℕ). n < 256) (choosesFirst (s .efr) place) (λ _. ok .xoff1-in .byte-in) (λ _. ok .xoff2-in .byte-in);
+    }

@@ -98,7 +98,7 @@ impl Setting {
     }
 
     // What a stored register holds, if it is the one set or not.
-    fn held(self, stored: Register, old: u8) -> u8
+    pub fn held(self, stored: Register, old: u8) -> u8
         ensures { λ r. ⌜ r ≡ ifSet self stored old ⌝ }
     {
         let register = self.register;

@@ -34,6 +34,12 @@ arrived-requires-2 c κs = search needs
 with-flags-requires : tie.Need-with-flags-requires
 with-flags-requires c κs = search needs
 
+heard-requires : tie.Need-heard-requires
+heard-requires c κs = search needs
+
+with-flow-requires : tie.Need-with-flow-requires
+with-flow-requires c κs = search needs
+
 stays-requires : tie.Need-stays-requires
 stays-requires c κs = search needs
 
@@ -42,7 +48,7 @@ fate-requires c κs = search needs
 
 returns : tie.Need-returns
 unfolding arrivalAct actWith settingBy receiveChange transmitChange resetsBy movedBy
-returns c = simp (c .fate .ensures, c .before .stays .ensures, c .before .before .with-flags .ensures, c .before .before .before .arrived2 .ensures, c .before .before .before .before .with-line .ensures, c .before .before .before .before .before .arrived .ensures, c .before .before .before .before .before .before .adds .ensures, c .before .before .before .before .before .before .before .room .ensures, c .before .before .before .before .before .before .before .before .arrived-byte .ensures, c .before .before .before .before .before .before .before .before .before .passes .ensures, c .before .before .before .before .before .before .before .before .before .before .before .heard-by .ensures, moved-pick)
+returns c = simp (c .fate .ensures, c .before .stays .ensures, c .before .before .with-flow .ensures, c .before .before .before .heard .ensures, c .before .before .before .before .with-flags .ensures, c .before .before .before .before .before .arrived2 .ensures, c .before .before .before .before .before .before .with-line .ensures, c .before .before .before .before .before .before .before .arrived .ensures, c .before .before .before .before .before .before .before .before .adds .ensures, c .before .before .before .before .before .before .before .before .before .room .ensures, c .before .before .before .before .before .before .before .before .before .before .arrived-byte .ensures, c .before .before .before .before .before .before .before .before .before .before .before .passes .ensures, c .before .before .before .before .before .before .before .before .before .before .before .before .before .heard-by .ensures, moved-pick)
 
 pub arrival-spec : {M : Type 1} → statement M
 arrival-spec =
@@ -57,6 +63,8 @@ arrival-spec =
     with-line-requires
     arrived-requires-2
     with-flags-requires
+    heard-requires
+    with-flow-requires
     stays-requires
     fate-requires
     returns)

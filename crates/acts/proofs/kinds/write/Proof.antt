@@ -12,14 +12,20 @@ register-requires c κs = search needs
 clears-requires : tie.Need-clears-requires
 clears-requires c κs = search needs
 
-written-requires : tie.Need-written-requires
-written-requires c κs = search needs
-
 cleared-requires : tie.Need-cleared-requires
 cleared-requires c κs = search needs
 
 with-line-requires : tie.Need-with-line-requires
 with-line-requires c κs = search needs
+
+written-requires : tie.Need-written-requires
+written-requires c κs = search needs
+
+written-requires-2 : tie.Need-written-requires-2
+written-requires-2 c κs = search needs
+
+with-flow-requires : tie.Need-with-flow-requires
+with-flow-requires c κs = search needs
 
 clears-requires-2 : tie.Need-clears-requires-2
 clears-requires-2 c κs = search needs
@@ -32,7 +38,7 @@ resets-device-requires c κs = search needs
 
 returns : tie.Need-returns
 unfolding writeAct actWith settingBy receiveChange transmitChange resetsBy movedBy
-returns c = simp (c .resets-device .ensures, c .before .sends .ensures, c .before .before .clears2 .ensures, c .before .before .before .with-line .ensures, c .before .before .before .before .cleared .ensures, c .before .before .before .before .before .written .ensures, c .before .before .before .before .before .before .clears .ensures, c .before .before .before .before .before .before .before .register .ensures, moved-pick)
+returns c = simp (c .resets-device .ensures, c .before .sends .ensures, c .before .before .clears2 .ensures, c .before .before .before .with-flow .ensures, c .before .before .before .before .written2 .ensures, c .before .before .before .before .before .written .ensures, c .before .before .before .before .before .before .with-line .ensures, c .before .before .before .before .before .before .before .cleared .ensures, c .before .before .before .before .before .before .before .before .clears .ensures, c .before .before .before .before .before .before .before .before .before .register .ensures, moved-pick)
 
 pub write-spec : {M : Type 1} → statement M
 write-spec =
@@ -40,9 +46,11 @@ write-spec =
     (tie.spec
     register-requires
     clears-requires
-    written-requires
     cleared-requires
     with-line-requires
+    written-requires
+    written-requires-2
+    with-flow-requires
     clears-requires-2
     sends-requires
     resets-device-requires

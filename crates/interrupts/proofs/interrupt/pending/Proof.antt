@@ -45,16 +45,16 @@ returns-6 : tie.Need-returns-6
 unfolding pendingOf
 returns-6 c = simp (c .if6 .taken, ← (c .before .special .ensures), c .before .before .if5 .left, ← (c .before .before .before .modem-status .ensures), c .before .before .before .before .if4 .left, ← (c .before .before .before .before .before .transmit .ensures), c .before .before .before .before .before .before .if3 .left, ← (c .before .before .before .before .before .before .before .receive .ensures), c .before .before .before .before .before .before .before .before .if2 .left, ← (c .before .before .before .before .before .before .before .before .before .timeout .ensures), c .before .before .before .before .before .before .before .before .before .before .if1 .left, ← (c .before .before .before .before .before .before .before .before .before .before .before .line-status .ensures))
 
-flow-requires : tie.Need-flow-requires
-flow-requires c κs = search needs
+hardware-flow-requires : tie.Need-hardware-flow-requires
+hardware-flow-requires c κs = search needs
 
 returns-7 : tie.Need-returns-7
 unfolding pendingOf
-returns-7 c = simp (c .if7 .taken, ← (c .before .flow .ensures), c .before .before .if6 .left, ← (c .before .before .before .special .ensures), c .before .before .before .before .if5 .left, ← (c .before .before .before .before .before .modem-status .ensures), c .before .before .before .before .before .before .if4 .left, ← (c .before .before .before .before .before .before .before .transmit .ensures), c .before .before .before .before .before .before .before .before .if3 .left, ← (c .before .before .before .before .before .before .before .before .before .receive .ensures), c .before .before .before .before .before .before .before .before .before .before .if2 .left, ← (c .before .before .before .before .before .before .before .before .before .before .before .timeout .ensures), c .before .before .before .before .before .before .before .before .before .before .before .before .if1 .left, ← (c .before .before .before .before .before .before .before .before .before .before .before .before .before .line-status .ensures))
+returns-7 c = simp (c .if7 .taken, ← (c .before .hardware-flow .ensures), c .before .before .if6 .left, ← (c .before .before .before .special .ensures), c .before .before .before .before .if5 .left, ← (c .before .before .before .before .before .modem-status .ensures), c .before .before .before .before .before .before .if4 .left, ← (c .before .before .before .before .before .before .before .transmit .ensures), c .before .before .before .before .before .before .before .before .if3 .left, ← (c .before .before .before .before .before .before .before .before .before .receive .ensures), c .before .before .before .before .before .before .before .before .before .before .if2 .left, ← (c .before .before .before .before .before .before .before .before .before .before .before .timeout .ensures), c .before .before .before .before .before .before .before .before .before .before .before .before .if1 .left, ← (c .before .before .before .before .before .before .before .before .before .before .before .before .before .line-status .ensures))
 
 returns-8 : tie.Need-returns-8
 unfolding pendingOf
-returns-8 c = simp (c .if7 .left, ← (c .before .flow .ensures), c .before .before .if6 .left, ← (c .before .before .before .special .ensures), c .before .before .before .before .if5 .left, ← (c .before .before .before .before .before .modem-status .ensures), c .before .before .before .before .before .before .if4 .left, ← (c .before .before .before .before .before .before .before .transmit .ensures), c .before .before .before .before .before .before .before .before .if3 .left, ← (c .before .before .before .before .before .before .before .before .before .receive .ensures), c .before .before .before .before .before .before .before .before .before .before .if2 .left, ← (c .before .before .before .before .before .before .before .before .before .before .before .timeout .ensures), c .before .before .before .before .before .before .before .before .before .before .before .before .if1 .left, ← (c .before .before .before .before .before .before .before .before .before .before .before .before .before .line-status .ensures))
+returns-8 c = simp (c .if7 .left, ← (c .before .hardware-flow .ensures), c .before .before .if6 .left, ← (c .before .before .before .special .ensures), c .before .before .before .before .if5 .left, ← (c .before .before .before .before .before .modem-status .ensures), c .before .before .before .before .before .before .if4 .left, ← (c .before .before .before .before .before .before .before .transmit .ensures), c .before .before .before .before .before .before .before .before .if3 .left, ← (c .before .before .before .before .before .before .before .before .before .receive .ensures), c .before .before .before .before .before .before .before .before .before .before .if2 .left, ← (c .before .before .before .before .before .before .before .before .before .before .before .timeout .ensures), c .before .before .before .before .before .before .before .before .before .before .before .before .if1 .left, ← (c .before .before .before .before .before .before .before .before .before .before .before .before .before .line-status .ensures))
 
 pub pending-spec : {M : Type 1} → statement M
 pending-spec =
@@ -72,6 +72,6 @@ pending-spec =
     returns-5
     special-requires
     returns-6
-    flow-requires
+    hardware-flow-requires
     returns-7
     returns-8)

@@ -8,7 +8,7 @@ bit-requires c κs = search needs
 
 returns : tie.Need-returns
 unfolding specialPending
-returns c = simp (c .before .bit .ensures)
+returns c = simp (c .before .before .bit .ensures)
 
 pub special-spec : {M : Type 1} → statement M
 special-spec = tie.close (tie.spec bit-requires returns)

@@ -205,7 +205,7 @@ module _ {M : Type 1} (𝓤 : URA M) (H : Heap 𝓤) (A : Atoms 𝓤) (W : Given
       holds-end ! gave-data _ g-is (of-opd ! (own ! 13 tt refl)) tt refl $
       meet y bs _ _ g-is (comes-at (y .x) (event y) side.A e (ap (λ s. pick s side.A side.B) i)) (refl, (refl, tt))))
       -- channel B's
-      (λ i. takes ! K.the-row 286 tt refl refl tt (tt, tt) $
+      (λ i. takes ! K.the-row 290 tt refl refl tt (tt, tt) $
       calls-end ! fm gave-data (gaveAt (y .x .b) (taken y .touch))
       (advances b (y .x) (wf .b-in) (taken y .touch) (in-range y) (touch-known (taken y) way-is) (y .b) (y .o))
       (λ z. and-then ! (own ! 15 tt refl) (and-then ! (own-field ! 6 2 tt refl tt tt) (no-more !))) tt refl (λ g-is.

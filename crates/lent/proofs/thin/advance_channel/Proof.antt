@@ -142,10 +142,10 @@ module _ {M : Type 1} (𝓤 : URA M) (H : Heap 𝓤) (A : Atoms 𝓤) (W : Given
       calls ! fm step-data (step y) (steps _ (y .x) (y .a .0) wf is (are .0))
       (λ z. and-then ! (own ! 4 tt refl) (and-then ! (own ! 2 tt refl) (no-more !))) tt refl (λ given.
       stores ! state state-data (step y .state) (parts _ given .1 .1 .0) (of-opd ! (own-field ! 3 2 tt refl tt tt)) tt refl refl $
-      takes ! Q.the-row 26 tt refl refl tt (tt, tt) $
+      takes ! Q.the-row 30 tt refl refl tt (tt, tt) $
       calls ! fm nothing tt (settles-in rx _ (step y .rx) (step-in (y .x) (wf .0) (y .a .0) (wf .1) .rx-in .place-in) (parts _ given .1 .1 .1 .0) (y .b) (y .o))
       (λ z. and-then ! (own ! 6 tt refl) (and-then ! (own-field ! 3 3 tt refl tt tt) (no-more !))) tt refl (λ _.
-      takes ! Q.the-row 156 tt refl refl tt (tt, tt) $
+      takes ! Q.the-row 160 tt refl refl tt (tt, tt) $
       calls ! fm nothing tt (settles-in tx _ (step y .tx) (step-in (y .x) (wf .0) (y .a .0) (wf .1) .tx-in .place-in) (parts _ given .1 .1 .1 .1 .0) (y .b) (y .o))
       (λ z. and-then ! (own ! 7 tt refl) (and-then ! (own-field ! 3 4 tt refl tt tt) (no-more !))) tt refl (λ _.
       lets ! (of-opd ! (own-field ! 3 0 tt refl tt tt)) tt (tt, tt) $ forks ! (step y .sets) tt refl

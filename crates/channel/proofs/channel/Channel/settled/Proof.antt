@@ -24,15 +24,21 @@ settled-requires c κs = search needs
 with-flags-requires : tie.Need-with-flags-requires
 with-flags-requires c κs = search needs
 
+settled-requires-2 : tie.Need-settled-requires-2
+settled-requires-2 c κs = search needs
+
 is-requires : tie.Need-is-requires
 is-requires c κs = search needs
 
 with-latch-requires : tie.Need-with-latch-requires
 with-latch-requires c κs = search needs
 
+with-flow-requires : tie.Need-with-flow-requires
+with-flow-requires c κs = search needs
+
 returns : tie.Need-returns
 unfolding settledOf
-returns c = simp (c .with-latch .ensures, c .before .is .ensures, c .before .before .with-flags .ensures, c .before .before .before .settled .ensures, c .before .before .before .before .moment2 .ensures, c .before .before .before .before .before .spaces .ensures, c .before .before .before .before .before .before .moment .ensures, c .before .before .before .before .before .before .before .latch-after .ensures, c .before .before .before .before .before .before .before .before .before .before .with .ensures)
+returns c = simp (c .with-flow .ensures, c .before .with-latch .ensures, c .before .before .is .ensures, c .before .before .before .settled2 .ensures, c .before .before .before .before .with-flags .ensures, c .before .before .before .before .before .settled .ensures, c .before .before .before .before .before .before .moment2 .ensures, c .before .before .before .before .before .before .before .spaces .ensures, c .before .before .before .before .before .before .before .before .moment .ensures, c .before .before .before .before .before .before .before .before .before .latch-after .ensures, c .before .before .before .before .before .before .before .before .before .before .before .before .with .ensures)
 
 pub settled-spec : {M : Type 1} → statement M
 settled-spec =
@@ -45,6 +51,8 @@ settled-spec =
     moment-requires-2
     settled-requires
     with-flags-requires
+    settled-requires-2
     is-requires
     with-latch-requires
+    with-flow-requires
     returns)

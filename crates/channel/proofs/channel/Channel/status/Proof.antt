@@ -17,7 +17,7 @@ any-mark-requires c κs = search needs
 
 returns : tie.Need-returns
 unfolding statusOf
-returns c = simp (c .any-mark .ensures, c .before .before .before .oldest .ensures, c .before .before .before .before .all-free .ensures, c .before .before .before .before .before .spaces .ensures)
+returns c = simp (c .any-mark .ensures, c .before .before .before .before .oldest .ensures, c .before .before .before .before .before .all-free .ensures, c .before .before .before .before .before .before .spaces .ensures)
 
 pub status-spec : {M : Type 1} → statement M
 status-spec =
