@@ -76,6 +76,14 @@ struct sc16is752_flags {
     bool thr;
 };
 
+/* Xon and Xoff. */
+struct sc16is752_flow {
+    bool stopped; /* by Xoff: no slot loads from the queue; also the Xoff flag */
+    bool latch;   /* the second latch, true for on */
+    bool waits;   /* a flow character waits to be sent */
+    uint8_t byte; /* the one that waits, 0 where none does */
+};
+
 /* The lines of a channel: all that it keeps beside its stored registers and its queues. */
 struct sc16is752_state {
     struct sc16is752_line line;
@@ -83,6 +91,7 @@ struct sc16is752_state {
     struct sc16is752_modem modem;
     struct sc16is752_flags flags;
     bool latch; /* auto-RTS, true for asserted */
+    struct sc16is752_flow flow;
 };
 
 struct sc16is752_channel {
@@ -162,7 +171,8 @@ enum {
     SC16IS752_KEPT = 0,
     SC16IS752_LOST = 1,               /* for want of room */
     SC16IS752_DROPPED_DISABLED = 2,   /* by a disabled receiver */
-    SC16IS752_DROPPED_BY_ADDRESS = 3
+    SC16IS752_DROPPED_BY_ADDRESS = 3,
+    SC16IS752_TAKEN = 4               /* as Xon or Xoff */
 };
 
 /* Pin values; a one means asserted. */
@@ -230,7 +240,7 @@ enum {
     SC16IS752_IER_LINE = 0x04,
     SC16IS752_IER_MODEM = 0x08,
     SC16IS752_IER_SLEEP = 0x10,
-    SC16IS752_IER_SPECIAL = 0x20,
+    SC16IS752_IER_SPECIAL = 0x20, /* a special match or Xoff */
     SC16IS752_IER_RTS = 0x40,
     SC16IS752_IER_CTS = 0x80
 };
@@ -251,7 +261,8 @@ enum {
 /* MCR. */
 enum {
     SC16IS752_MCR_RTS = 0x02,
-    SC16IS752_MCR_TCR_TLR = 0x04
+    SC16IS752_MCR_TCR_TLR = 0x04,
+    SC16IS752_MCR_XON_ANY = 0x20 /* any other passing character resumes as Xon does */
 };
 
 /* LSR. Bits 4:2 are the marks of the oldest character. */
@@ -262,7 +273,7 @@ enum {
     SC16IS752_LSR_FRAMING = 0x08,
     SC16IS752_LSR_BREAK = 0x10,
     SC16IS752_LSR_TX_EMPTY = 0x20,
-    SC16IS752_LSR_IDLE = 0x40,
+    SC16IS752_LSR_IDLE = 0x40, /* transmit queue and shift register empty, and nothing waits */
     SC16IS752_LSR_ERROR = 0x80
 };
 
@@ -287,8 +298,13 @@ enum {
     SC16IS752_EFCR_RTS_INVERTED = 0x20
 };
 
-/* EFR. */
+/* EFR. The pair of XON and XOFF that arrivals are compared with, and the pair that is sent: one of each or none, for with
+ * both bits of a choice set nothing is compared or sent. */
 enum {
+    SC16IS752_EFR_RX_PAIR_2 = 0x01,
+    SC16IS752_EFR_RX_PAIR_1 = 0x02,
+    SC16IS752_EFR_TX_PAIR_2 = 0x04,
+    SC16IS752_EFR_TX_PAIR_1 = 0x08,
     SC16IS752_EFR_ENHANCED = 0x10,
     SC16IS752_EFR_SPECIAL = 0x20,
     SC16IS752_EFR_AUTO_RTS = 0x40,
@@ -308,7 +324,7 @@ enum {
     SC16IS752_INTERRUPT_RHR = 0x04,
     SC16IS752_INTERRUPT_THR = 0x02,
     SC16IS752_INTERRUPT_MODEM = 0x00,
-    SC16IS752_INTERRUPT_SPECIAL = 0x10,
+    SC16IS752_INTERRUPT_SPECIAL = 0x10, /* the special flag or the Xoff flag */
     SC16IS752_INTERRUPT_CTS_RTS = 0x20,
     SC16IS752_INTERRUPT_NONE = 0x01
 };

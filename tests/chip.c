@@ -1,5 +1,5 @@
-/* Document 01's listing, every refusal, and events of every kind as they are written, through the C interface. Silent where
- * all answers are as expected. */
+/* Document 01's listing, Xon and Xoff, every refusal, and events of every kind as they are written, through the C interface.
+ * Silent where all answers are as expected. */
 #include "sc16is752.h"
 
 #include <stdio.h>
@@ -23,6 +23,51 @@ static const struct try listing[] = {
     {SC16IS752_READ, 0, SC16IS752_LSR, 0, 96},
     {SC16IS752_READ, 2, SC16IS752_LSR, 0, REFUSED(4)},
     {9, 0, 0, 0, REFUSED(3)},
+};
+
+/* The first pair is taken and the second sent, any other character resumes; left stopped, and with Xoff waiting. */
+static const struct try flow[] = {
+    {SC16IS752_WRITE, 1, SC16IS752_LCR, SC16IS752_LCR_ENHANCED, 0},
+    {SC16IS752_WRITE, 1, SC16IS752_EFR, SC16IS752_EFR_RX_PAIR_1 | SC16IS752_EFR_TX_PAIR_2 | SC16IS752_EFR_ENHANCED, 0},
+    {SC16IS752_WRITE, 1, SC16IS752_XON1, 0x11, 0},
+    {SC16IS752_WRITE, 1, SC16IS752_XOFF1, 0x13, 0},
+    {SC16IS752_WRITE, 1, SC16IS752_XON2, 0x21, 0},
+    {SC16IS752_WRITE, 1, SC16IS752_XOFF2, 0x23, 0},
+    {SC16IS752_WRITE, 1, SC16IS752_LCR, SC16IS752_LCR_WORD_8, 0},
+    {SC16IS752_WRITE, 1, SC16IS752_FCR, SC16IS752_FCR_FIFO, 0},
+    {SC16IS752_WRITE, 1, SC16IS752_IER, SC16IS752_IER_SPECIAL, 0},
+    {SC16IS752_WRITE, 1, SC16IS752_MCR, SC16IS752_MCR_XON_ANY, 0},
+    {SC16IS752_WRITE, 1, SC16IS752_THR, 0x51, 0},
+    {SC16IS752_ARRIVAL, 1, 0x13, 0, SC16IS752_TAKEN},
+    {SC16IS752_READ, 1, SC16IS752_IIR, 0, SC16IS752_IIR_FIFO | SC16IS752_INTERRUPT_SPECIAL},
+    {SC16IS752_SLOT, 1, 0, 0, SC16IS752_NO_CHARACTER},
+    {SC16IS752_READ, 1, SC16IS752_TXLVL, 0, 63},
+    {SC16IS752_ARRIVAL, 1, 0x11, 0, SC16IS752_TAKEN},
+    {SC16IS752_READ, 1, SC16IS752_IIR, 0, SC16IS752_IIR_FIFO | SC16IS752_INTERRUPT_NONE},
+    {SC16IS752_ARRIVAL, 1, 0x13, 0, SC16IS752_TAKEN},
+    {SC16IS752_ARRIVAL, 1, 0x41, 0, SC16IS752_KEPT},
+    {SC16IS752_IRQ_LOOK, 0, 0, 0, 0},
+    {SC16IS752_SLOT, 1, 0, 0, SC16IS752_NO_CHARACTER},
+    {SC16IS752_SLOT, 1, 0, 0, 0x51},
+    {SC16IS752_ARRIVAL, 1, 0x42, 0, SC16IS752_KEPT},
+    {SC16IS752_ARRIVAL, 1, 0x43, 0, SC16IS752_KEPT},
+    {SC16IS752_ARRIVAL, 1, 0x44, 0, SC16IS752_KEPT},
+    {SC16IS752_ARRIVAL, 1, 0x45, 0, SC16IS752_KEPT},
+    {SC16IS752_ARRIVAL, 1, 0x46, 0, SC16IS752_KEPT},
+    {SC16IS752_ARRIVAL, 1, 0x47, 0, SC16IS752_KEPT},
+    {SC16IS752_READ, 1, SC16IS752_LSR, 0, SC16IS752_LSR_READY | SC16IS752_LSR_TX_EMPTY | SC16IS752_LSR_IDLE},
+    {SC16IS752_ARRIVAL, 1, 0x48, 0, SC16IS752_KEPT},
+    {SC16IS752_READ, 1, SC16IS752_LSR, 0, SC16IS752_LSR_READY | SC16IS752_LSR_TX_EMPTY},
+    {SC16IS752_SLOT, 1, 0, 0, SC16IS752_NO_CHARACTER},
+    {SC16IS752_SLOT, 1, 0, 0, 0x23},
+    {SC16IS752_WRITE, 1, SC16IS752_FCR, SC16IS752_FCR_FIFO | SC16IS752_FCR_CLEAR_RX, 0},
+    {SC16IS752_SLOT, 1, 0, 0, SC16IS752_NO_CHARACTER},
+    {SC16IS752_SLOT, 1, 0, 0, 0x21},
+    {SC16IS752_WRITE, 1, SC16IS752_MCR, SC16IS752_MCR_TCR_TLR, 0},
+    {SC16IS752_WRITE, 1, SC16IS752_TCR, 0x10, 0},
+    {SC16IS752_ARRIVAL, 1, 0x13, 0, SC16IS752_TAKEN},
+    {SC16IS752_IRQ_LOOK, 0, 0, 0, 1},
+    {SC16IS752_WRITE, 1, SC16IS752_IER, 0, 0},
 };
 
 /* Each refusal at the first number that meets it and at the last, and in the order of the numbers. */
@@ -105,6 +150,8 @@ int main(void)
     sc16is752_new(&chip);
     for (size_t i = 0; i < sizeof listing / sizeof listing[0]; i++)
         try(&chip, &listing[i]);
+    for (size_t i = 0; i < sizeof flow / sizeof flow[0]; i++)
+        try(&chip, &flow[i]);
 
     for (size_t i = 0; i < sizeof refusals / sizeof refusals[0]; i++) {
         memcpy(&before, &chip, sizeof chip);

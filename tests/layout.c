@@ -20,24 +20,30 @@ SIZE(sc16is752_line, 2);
 SIZE(sc16is752_shift, 2);
 SIZE(sc16is752_modem, 2);
 SIZE(sc16is752_flags, 4);
-SIZE(sc16is752_state, 11);
-SIZE(sc16is752_channel, 286);
-SIZE(sc16is752, 572);
+SIZE(sc16is752_flow, 4);
+SIZE(sc16is752_state, 15);
+SIZE(sc16is752_channel, 290);
+SIZE(sc16is752, 580);
 
 AT(sc16is752_queue, marks, 64);
 AT(sc16is752_queue, start, 128);
 AT(sc16is752_queue, count, 129);
 AT(sc16is752_channel, settings, 0);
 AT(sc16is752_channel, state, 15);
-AT(sc16is752_channel, rx, 26);
-AT(sc16is752_channel, tx, 156);
+AT(sc16is752_channel, rx, 30);
+AT(sc16is752_channel, tx, 160);
 AT(sc16is752_state, line, 0);
 AT(sc16is752_state, shift, 2);
 AT(sc16is752_state, modem, 4);
 AT(sc16is752_state, flags, 6);
 AT(sc16is752_state, latch, 10);
+AT(sc16is752_state, flow, 11);
+AT(sc16is752_flow, stopped, 0);
+AT(sc16is752_flow, latch, 1);
+AT(sc16is752_flow, waits, 2);
+AT(sc16is752_flow, byte, 3);
 AT(sc16is752, a, 0);
-AT(sc16is752, b, 286);
+AT(sc16is752, b, 290);
 
 static struct sc16is752 chip;
 
@@ -113,6 +119,24 @@ static void lines(void)
     assert(!chip.a.state.latch && chip.a.rx.count == 8);
 }
 
+/* Channel b as settings leaves it: the first pair compared and sent, halt 8 and resume 4. */
+static void flow_control(void)
+{
+    const struct sc16is752_flow *flow = &chip.b.state.flow;
+    assert(!flow->stopped && flow->latch && !flow->waits && flow->byte == 0);
+    assert(sc16is752_step(&chip, SC16IS752_ARRIVAL, 1, 0x75, 0) == SC16IS752_TAKEN && flow->stopped);
+    assert(sc16is752_step(&chip, SC16IS752_ARRIVAL, 1, 0x73, 0) == SC16IS752_TAKEN && !flow->stopped);
+    for (unsigned i = 0; i < 8; i++)
+        assert(flow->latch && sc16is752_step(&chip, SC16IS752_ARRIVAL, 1, i, 0) == SC16IS752_KEPT);
+    assert(!flow->latch && flow->waits && flow->byte == 0x75);
+    write_to(1, SC16IS752_EFCR, 0);
+    assert(sc16is752_step(&chip, SC16IS752_SLOT, 1, 0, 0) == SC16IS752_NO_CHARACTER);
+    assert(chip.b.state.shift.full && chip.b.state.shift.byte == 0x75 && !flow->waits && flow->byte == 0);
+    for (unsigned i = 0; i < 4; i++)
+        assert(!flow->latch && sc16is752_step(&chip, SC16IS752_READ, 1, SC16IS752_RHR, 0) == i);
+    assert(flow->latch && flow->waits && flow->byte == 0x73);
+}
+
 int main(void)
 {
     sc16is752_new(&chip);
@@ -120,6 +144,7 @@ int main(void)
     assert(memcmp(&chip.a, &chip.b, sizeof chip.a) == 0);
     settings();
     lines();
+    flow_control();
     struct sc16is752 before = chip;
     assert(sc16is752_step(&chip, SC16IS752_READ, 2, 0, 0) == SC16IS752_REFUSED + SC16IS752_REFUSED_CHANNEL);
     assert(memcmp(&before, &chip, sizeof chip) == 0);
