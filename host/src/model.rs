@@ -99,7 +99,7 @@ struct Channel<S> {
     received: VecDeque<(u8, u8)>,
     /// How many of them have a mark that isn't 0.
     marked: usize,
-    waiting: VecDeque<u8>,
+    to_send: VecDeque<u8>,
     shift: Option<u8>,
     overrun: bool,
     quiet: u8,
@@ -133,7 +133,7 @@ impl<S: Switch> Channel<S> {
             changes: 0,
             received: VecDeque::with_capacity(ROOM),
             marked: 0,
-            waiting: VecDeque::with_capacity(ROOM),
+            to_send: VecDeque::with_capacity(ROOM),
             shift: None,
             overrun: false,
             quiet: 0,
@@ -162,8 +162,8 @@ impl<S: Switch> Channel<S> {
         if !w.has(ResetKeepsReceived) {
             self.clear_received();
         }
-        if !w.has(ResetKeepsWaiting) {
-            self.waiting.clear();
+        if !w.has(ResetKeepsToSend) {
+            self.to_send.clear();
         }
         self.shift = w.pick(None, ResetKeepsShift, self.shift);
         self.overrun = w.pick(false, ResetKeepsOverrun, self.overrun);
@@ -339,8 +339,8 @@ impl<S: Switch> Channel<S> {
         if receive || turned && !w.has(FifoKeepsReceived) {
             self.clear_received();
         }
-        if transmit || turned && !w.has(FifoKeepsWaiting) {
-            self.waiting.clear();
+        if transmit || turned && !w.has(FifoKeepsToSend) {
+            self.to_send.clear();
             if w.has(ClearShift) {
                 self.shift = None;
             }
@@ -384,7 +384,7 @@ impl<S: Switch> Channel<S> {
             }
             (Window::General, 7) => self.spr,
             // "TXLVL is free spaces." "count of queued characters, which RXLVL reads"
-            (Window::General, 8) => w.pick(self.spaces(), LevelQueued, self.waiting.len()) as u8,
+            (Window::General, 8) => w.pick(self.spaces(), LevelQueued, self.to_send.len()) as u8,
             (Window::General, 9) => self.received.len() as u8,
             (Window::General, 0x0A..=0x0D) => w.pick(0, GapReads, 0xFF),
             // "IOControl reads 06"
@@ -534,7 +534,7 @@ impl<S: Switch> Channel<S> {
         let shown = w.pick(self.received.front(), LsrNewest, self.received.back());
         let mark = shown.map_or(0, |&(_, mark)| mark);
         let mark = w.pick(mark, LsrMarksTurned, mark.reverse_bits() >> 5);
-        let empty = self.waiting.is_empty();
+        let empty = self.to_send.is_empty();
         let idle = empty && self.shift.is_none();
         // "bit 0 queue not empty; 1 overrun ...; 4:2 marks of the oldest (break, framing, parity); 5 transmit
         // queue empty; 6 that and shift register empty; 7 some queued mark not 0"
@@ -565,7 +565,7 @@ impl<S: Switch> Channel<S> {
 
     #[inline]
     fn spaces(&self) -> usize {
-        self.transmit_room() - self.waiting.len()
+        self.transmit_room() - self.to_send.len()
     }
 
     #[inline]
@@ -577,11 +577,11 @@ impl<S: Switch> Channel<S> {
     /// "THR write to a full queue loses the byte."
     fn write_thr(&mut self, byte: u8) {
         let byte = self.w.pick(byte, CutAtWrite, self.cut(byte));
-        if self.waiting.len() < self.transmit_room() {
-            self.waiting.push_back(byte);
+        if self.to_send.len() < self.transmit_room() {
+            self.to_send.push_back(byte);
         } else if self.w.has(TransmitOldestLost) {
-            self.waiting.pop_front();
-            self.waiting.push_back(byte);
+            self.to_send.pop_front();
+            self.to_send.push_back(byte);
         }
     }
 
@@ -603,11 +603,11 @@ impl<S: Switch> Channel<S> {
         }
         let loads = (enabled || w.has(DisabledLoads)) && (clear || w.has(CtsIgnored));
         if w.has(LoadBeforeLeave) && self.shift.is_none() && loads {
-            self.shift = self.waiting.pop_front();
+            self.shift = self.to_send.pop_front();
         }
         let left = self.shift.take();
         if loads {
-            self.shift = self.waiting.pop_front();
+            self.shift = self.to_send.pop_front();
             if w.has(CutAtLoad) {
                 self.shift = self.shift.map(|byte| self.cut(byte));
             }
@@ -677,7 +677,7 @@ impl<S: Switch> Channel<S> {
         let w = self.w;
         let turned = bit(self.efcr, 5) && !w.has(RtsUnturned);
         if bit(self.efcr, 4) && !(w.has(RtsLatchFirst) && bit(self.efr, 6)) {
-            let sending = !self.waiting.is_empty() || self.shift.is_some() && !w.has(RtsQueueOnly);
+            let sending = !self.to_send.is_empty() || self.shift.is_some() && !w.has(RtsQueueOnly);
             return sending != turned;
         }
         let rts = if bit(self.efr, 6) { self.latch } else { bit(self.mcr, w.pick(1, RtsByMcrZero, 0)) };
@@ -694,7 +694,7 @@ impl<S: Switch> Channel<S> {
             let (spaces, level) = (self.spaces(), self.transmit_level());
             w.pick(spaces >= level, TransmitAbove, spaces > level)
         } else {
-            self.waiting.is_empty()
+            self.to_send.is_empty()
         }
     }
 
