@@ -1,4 +1,4 @@
-//! A second model of document 01, written by hand from the document alone.
+//! A second model of document 01 and of document 02's request 01, written by hand from the documents alone.
 //!
 //! `Model` is the plain one. `Machine` with a `Wrong` has one rule wrong; the plain model pays nothing for it.
 use crate::wrong::Wrong::{self, *};
@@ -38,6 +38,8 @@ const KEPT: u32 = 0;
 const LOST: u32 = 1;
 const DISABLED: u32 = 2;
 const ADDRESS: u32 = 3;
+/// "Neither is queued: new fate 4."
+const TAKEN: u32 = 4;
 
 /// "character that left, or 256"
 const NONE_LEFT: u32 = 256;
@@ -109,6 +111,12 @@ struct Channel<S> {
     rts_flag: bool,
     /// The auto-RTS latch, true while asserted.
     latch: bool,
+    /// An Xoff stopped loading, which is the Xoff flag too.
+    stopped: bool,
+    /// The second latch, true while on.
+    second: bool,
+    /// The Xon or Xoff that waits to be sent.
+    waiting: Option<u8>,
 }
 
 impl<S: Switch> Channel<S> {
@@ -142,6 +150,9 @@ impl<S: Switch> Channel<S> {
             cts_flag: false,
             rts_flag: false,
             latch: true,
+            stopped: false,
+            second: true,
+            waiting: None,
         };
         channel.reset();
         channel
@@ -175,6 +186,10 @@ impl<S: Switch> Channel<S> {
         // "THR flag set (house); auto-RTS latch asserted"
         self.thr_flag = w.pick(true, ResetThrFlagClear, false);
         self.latch = true;
+        // "Reset ... drops what waits and sets the latch on; reset also resumes and clears the flag."
+        self.waiting = w.pick(None, ResetKeepsWaiting, self.waiting);
+        self.second = w.pick(true, ResetKeepsSecond, self.second);
+        self.stopped = w.pick(false, ResetKeepsStop, self.stopped);
         // "DLL, DLH, SPR, XON and XOFF keep theirs. Pins are inputs and stay."
         if w.has(ResetSpr) {
             self.spr = 0;
@@ -207,17 +222,9 @@ impl<S: Switch> Channel<S> {
         self.latch = if !bit(self.efr, 6) {
             w.pick(true, LatchStays, self.latch)
         } else {
-            let (halt, resume) = self.halt_and_resume();
-            let count = self.received.len();
-            let on = w.pick(count <= resume, ResumeBelow, count < resume);
-            if w.has(ResumeFirst) && on {
-                true
-            } else if w.pick(count >= halt, HaltAbove, count > halt) {
-                false
-            } else {
-                on || w.pick(self.latch, LatchFree, true)
-            }
+            self.stepped(self.latch, self.halt_and_resume())
         };
+        self.step_second();
         // "The RTS flag sets when RTS goes from asserted to not."
         let now = self.rts();
         if w.has(RtsFlagBefore) {
@@ -232,6 +239,21 @@ impl<S: Switch> Channel<S> {
             self.thr_flag = w.pick(false, ThrStays, self.thr_flag);
         } else if !ready || w.has(ThrAgain) {
             self.thr_flag = true;
+        }
+    }
+
+    /// A latch by the halt and resume rule.
+    #[inline]
+    fn stepped(&self, latch: bool, (halt, resume): (usize, usize)) -> bool {
+        let w = self.w;
+        let count = self.received.len();
+        let on = w.pick(count <= resume, ResumeBelow, count < resume);
+        if w.has(ResumeFirst) && on {
+            true
+        } else if w.pick(count >= halt, HaltAbove, count > halt) {
+            false
+        } else {
+            on || w.pick(latch, LatchFree, true)
         }
     }
 
@@ -297,7 +319,7 @@ impl<S: Switch> Channel<S> {
             // "DLL and DLH take nothing while IER 4 is set."
             (Window::Divisor, 0) if !bit(self.ier, 4) || w.has(DllUnguarded) => self.dll = byte,
             (Window::Divisor, 1) if !bit(self.ier, 4) || w.has(DlhUnguarded) => self.dlh = byte,
-            (Window::Enhanced, 2) => self.efr = byte & w.pick(0xFF, EfrLowLost, 0xF0),
+            (Window::Enhanced, 2) => self.write_efr(byte),
             (Window::Enhanced, 4 | 5) => self.xon[usize::from(address - 4)] = byte,
             (Window::Enhanced, 6 | 7) => self.xoff[usize::from(address - 6)] = byte,
             (Window::Enhanced, 0) if w.has(DivisorInBf) => self.dll = byte,
@@ -344,6 +366,9 @@ impl<S: Switch> Channel<S> {
             if w.has(ClearShift) {
                 self.shift = None;
             }
+            if w.has(ClearWaiting) {
+                self.waiting = None;
+            }
         }
     }
 
@@ -384,7 +409,10 @@ impl<S: Switch> Channel<S> {
             }
             (Window::General, 7) => self.spr,
             // "TXLVL is free spaces." "count of queued characters, which RXLVL reads"
-            (Window::General, 8) => w.pick(self.spaces(), LevelQueued, self.to_send.len()) as u8,
+            (Window::General, 8) => {
+                let spaces = w.pick(self.spaces(), LevelQueued, self.to_send.len()) as u8;
+                w.pick(spaces, LevelWaiting, spaces.saturating_sub(u8::from(self.waiting.is_some())))
+            }
             (Window::General, 9) => self.received.len() as u8,
             (Window::General, 0x0A..=0x0D) => w.pick(0, GapReads, 0xFF),
             // "IOControl reads 06"
@@ -427,17 +455,24 @@ impl<S: Switch> Channel<S> {
         let quiet = self.quiet;
         // "an arrival of any fate ... makes it 0"
         self.quiet = 0;
-        match (bit(self.efcr, 0), bit(self.efr, 5)) {
+        // A wrong resume: by the characters that are dropped below, too.
+        if w.has(AnyDropped) && bit(self.mcr, 5) {
+            self.stopped = false;
+        }
+        let special = match (bit(self.efcr, 0), bit(self.efr, 5)) {
             // "EFCR 0 clear: dropped (2) if EFCR 1 is set. Otherwise it passes, and if EFR 5 is set and it
             // equals XOFF2 the special flag is set."
             (false, special) => {
                 let matched = (special || w.has(SpecialAlways)) && equal;
-                if off && !w.has(DisabledPasses) {
+                let passes = w.has(DisabledPasses)
+                    || w.has(DisabledTaken) && self.xon_or_xoff(byte, mark, matched).is_some();
+                if off && !passes {
                     self.special_flag |= w.has(DisabledSpecial) && matched;
                     self.quiet = w.pick(0, QuietDropped, quiet);
                     return DISABLED;
                 }
                 self.special_flag |= matched && !(full && w.has(LostSpecial));
+                matched
             }
             // "ninth bit 1 and equal to XOFF2 clears EFCR 1 and passes; ninth bit 1 and unequal sets EFCR 1
             // and is dropped (3) ... No special flag."
@@ -450,6 +485,7 @@ impl<S: Switch> Channel<S> {
                     if w.has(MatchTaken) {
                         return KEPT;
                     }
+                    false
                 } else {
                     if !w.has(MismatchLeavesOn) {
                         self.efcr |= 2;
@@ -469,12 +505,31 @@ impl<S: Switch> Channel<S> {
                     self.quiet = w.pick(0, QuietDropped, quiet);
                     return DISABLED;
                 }
+                false
             }
-        }
-        if w.has(LoopbackActs) && bit(self.mcr, 4)
-            || w.has(SoftFlowActs) && bit(self.efr, 1) && character == self.xoff[0]
-        {
+        };
+        if w.has(LoopbackActs) && bit(self.mcr, 4) {
             return KEPT;
+        }
+        match self.xon_or_xoff(byte, mark, special) {
+            Some(xoff) if !(full && w.has(FullFirst)) => {
+                self.stop_or_resume(xoff);
+                if !w.has(if xoff { XoffQueued } else { XonQueued }) {
+                    self.overrun |= full && w.has(TakenOverrun);
+                    self.quiet = w.pick(0, QuietTaken, quiet);
+                    return w.pick(w.pick(TAKEN, TakenKept, KEPT), TakenDropped, DISABLED);
+                }
+            }
+            // "With MCR 5, any other passing character also resumes, clears the flag and is queued as usual."
+            _ => {
+                if self.any_resumes(mark, special, full) {
+                    let stopped = self.stopped;
+                    self.stopped = false;
+                    if w.has(AnyTaken) && stopped {
+                        return TAKEN;
+                    }
+                }
+            }
         }
         // "A passing character is kept with its mark if fewer than room are queued, else lost (1) and overrun
         // is set."
@@ -491,6 +546,138 @@ impl<S: Switch> Channel<S> {
             self.keep(character, mark);
             KEPT
         }
+    }
+
+    // Xon and Xoff.
+
+    /// "EFR 1:0 of 10 compares XON1 and XOFF1, 01 the second pair, 00 and 11 nothing yet".
+    #[inline]
+    fn compared(&self) -> Option<usize> {
+        let bits = self.efr >> self.w.pick(0, PairsExchanged, 2);
+        self.pair(bits, [ComparedTurned, ComparedFirst, ComparedEleven, ComparedZero])
+    }
+
+    /// "EFR 3:2 chooses alike what is sent."
+    #[inline]
+    fn sent(&self) -> Option<usize> {
+        let bits = self.efr >> self.w.pick(2, PairsExchanged, 0);
+        self.pair(bits, [SentTurned, SentFirst, SentEleven, SentZero])
+    }
+
+    #[inline(always)]
+    fn pair(&self, bits: u8, [turned, first, eleven, zero]: [Wrong; 4]) -> Option<usize> {
+        let w = self.w;
+        match bits & 3 {
+            2 => Some(w.pick(0, turned, 1)),
+            1 => Some(w.pick(w.pick(1, turned, 0), first, 0)),
+            3 if w.has(eleven) => Some(0),
+            0 if w.has(zero) => Some(0),
+            _ => None,
+        }
+    }
+
+    fn write_efr(&mut self, byte: u8) {
+        let w = self.w;
+        let old = (self.compared(), self.sent());
+        self.efr = byte & w.pick(0xFF, EfrLowLost, 0xF0);
+        let changed = |old: Option<usize>, new, wrong| w.has(wrong) && old != new;
+        // "Setting EFR 1:0 to 00 or 11 resumes and clears it too."
+        let kept = w.has(if bit(self.efr, 0) { ElevenKeepsStop } else { ZeroKeepsStop });
+        let compared = self.compared();
+        if compared.is_none() && !kept || changed(old.0, compared, ComparedChange) {
+            self.stopped = false;
+        }
+        // "EFR 3:2 set to 00 or 11, drops what waits and sets the latch on"
+        let kept = w.has(if bit(self.efr, 2) { ElevenKeepsWaiting } else { ZeroKeepsWaiting });
+        let sent = self.sent();
+        if sent.is_none() && !kept || changed(old.1, sent, SentChange) {
+            self.waiting = None;
+        }
+        if sent.is_none() && !w.has(SentKeepsSecond) || changed(old.1, sent, SentChangeSecond) {
+            self.second = true;
+        }
+    }
+
+    /// "With EFCR 0 clear, a passing, unmarked character that wasn't a special match and equals, cut, the
+    /// whole Xoff ...; one equal to Xon ... If the two are equal, Xoff decides." True for Xoff, false for Xon.
+    #[inline]
+    fn xon_or_xoff(&self, byte: u8, mark: u8, special: bool) -> Option<bool> {
+        let w = self.w;
+        let pair = self.compared()?;
+        if bit(self.efcr, 0) && !w.has(NineBitTaken)
+            || mark != 0 && !w.has(MarkedTaken)
+            || special && !w.has(SpecialTaken)
+        {
+            return None;
+        }
+        let character = w.pick(self.cut(byte), TakenUncut, byte);
+        let equals = |stored| character == w.pick(stored, XonCut, self.cut(stored));
+        let xon = equals(self.xon[pair]) && (self.stopped || !w.has(XonStopped));
+        let xoff = equals(self.xoff[pair]) && !(self.stopped && w.has(XoffOnce));
+        if xoff && !(xon && w.has(XonDecides)) {
+            Some(true)
+        } else if xon {
+            Some(false)
+        } else {
+            None
+        }
+    }
+
+    /// Xoff "stops loading and sets an Xoff flag", Xon "resumes and clears it".
+    #[inline]
+    fn stop_or_resume(&mut self, xoff: bool) {
+        let w = self.w;
+        if xoff {
+            self.stopped = !(w.has(StopByIer) && !bit(self.ier, 5) || w.has(AnyXoff) && bit(self.mcr, 5));
+            self.special_flag |= w.has(XoffSpecial);
+        } else {
+            self.stopped &= w.has(XonIdle);
+        }
+    }
+
+    /// Whether MCR 5 has a character resume that isn't taken.
+    #[inline]
+    fn any_resumes(&self, mark: u8, special: bool, full: bool) -> bool {
+        let w = self.w;
+        (bit(self.mcr, 5) && !w.has(AnyIgnored) || w.has(AnyAlways))
+            && (bit(self.efr, 4) || !w.has(AnyGuarded))
+            && !(full && w.has(AnyKept))
+            && !(bit(self.efcr, 0) && w.has(AnyPlain))
+            && !(mark != 0 && w.has(AnyUnmarked))
+            && !(special && w.has(AnyNotSpecial))
+    }
+
+    /// "While EFR 3:2 sends, the halt and resume rule drives a second latch, stepped after the first; each
+    /// time it turns, Xoff for off or Xon for on waits, the byte as stored then, replacing one still waiting".
+    #[inline]
+    fn step_second(&mut self) {
+        let w = self.w;
+        let Some(pair) = self.sent() else {
+            if w.has(SecondAlways) {
+                self.second = self.stepped(self.second, self.halt_and_resume());
+            }
+            return;
+        };
+        if w.has(SecondByRts) && !bit(self.efr, 6) || w.has(SecondWithoutRts) && bit(self.efr, 6) {
+            return;
+        }
+        let (halt, resume) = self.halt_and_resume();
+        let on = self.stepped(self.second, (w.pick(halt, SecondByTlr, self.receive_level()), resume));
+        if on != self.second || w.has(PutAgain) && !on {
+            self.second = on;
+            let byte = self.put(pair, w.pick(on, PutTurned, !on));
+            let byte = w.pick(byte, PutCut, self.cut(byte));
+            let waits = self.waiting.is_some();
+            if !(w.has(FirstStays) && waits || w.has(XonUnsent) && on) {
+                self.waiting = if w.has(TurnDrops) && waits { None } else { Some(byte) };
+            }
+        }
+    }
+
+    /// The byte of a pair that a latch calls for.
+    #[inline]
+    fn put(&self, pair: usize, on: bool) -> u8 {
+        if on { self.xon[pair] } else { self.xoff[pair] }
     }
 
     /// "Room is 64 with FCR 0 set, 1 without".
@@ -536,13 +723,17 @@ impl<S: Switch> Channel<S> {
         let mark = w.pick(mark, LsrMarksTurned, mark.reverse_bits() >> 5);
         let empty = self.to_send.is_empty();
         let idle = empty && self.shift.is_none();
+        let none_waits = self.waiting.is_none();
+        let five = w.pick(w.pick(empty, LsrFiveShift, idle), LsrFiveWaiting, empty && none_waits);
+        // "LSR 6 then also needs nothing waiting."
+        let six = w.pick(w.pick(idle, LsrSixQueue, empty) && none_waits, LsrSixWaiting, idle);
         // "bit 0 queue not empty; 1 overrun ...; 4:2 marks of the oldest (break, framing, parity); 5 transmit
         // queue empty; 6 that and shift register empty; 7 some queued mark not 0"
         u8::from(!self.received.is_empty())
             | u8::from(self.overrun) << 1
             | mark << 2
-            | u8::from(w.pick(empty, LsrFiveShift, idle)) << 5
-            | u8::from(w.pick(idle, LsrSixQueue, empty)) << 6
+            | u8::from(five) << 5
+            | u8::from(six) << 6
             | u8::from(self.some_mark()) << 7
     }
 
@@ -585,13 +776,13 @@ impl<S: Switch> Channel<S> {
         }
     }
 
-    /// "a held character leaves, cut to the word length; then the oldest is loaded if there is one, EFCR 2 is
-    /// clear, and EFR 7 is clear or CTS is asserted"
+    /// "a held character leaves, cut to the word length"
     fn slot(&mut self) -> u32 {
         let w = self.w;
-        let enabled = !bit(self.efcr, 2);
-        let clear = w.pick(!bit(self.efr, 7), CtsAlways, false) || self.pins & CTS != 0;
-        if w.has(DisabledHolds) && !enabled || w.has(CtsHolds) && !clear {
+        if w.has(DisabledHolds) && bit(self.efcr, 2)
+            || w.has(CtsHolds) && !self.clear_to_send()
+            || w.has(StopHolds) && self.stopped
+        {
             return NONE_LEFT;
         }
         // "Their bits are stored as below without other effect. The divisor doesn't affect events."
@@ -601,18 +792,48 @@ impl<S: Switch> Channel<S> {
         {
             return NONE_LEFT;
         }
-        let loads = (enabled || w.has(DisabledLoads)) && (clear || w.has(CtsIgnored));
-        if w.has(LoadBeforeLeave) && self.shift.is_none() && loads {
-            self.shift = self.to_send.pop_front();
+        let early = w.has(LoadBeforeLeave) || w.has(WaitingLeaves) && self.waiting.is_some();
+        if early && self.shift.is_none() {
+            self.load();
         }
         let left = self.shift.take();
-        if loads {
-            self.shift = self.to_send.pop_front();
-            if w.has(CutAtLoad) {
-                self.shift = self.shift.map(|byte| self.cut(byte));
-            }
-        }
+        self.load();
         left.map_or(NONE_LEFT, |byte| u32::from(w.pick(self.cut(byte), SlotUncut, byte)))
+    }
+
+    /// "EFR 7 is clear or CTS is asserted"
+    #[inline]
+    fn clear_to_send(&self) -> bool {
+        self.w.pick(!bit(self.efr, 7), CtsAlways, false) || self.pins & CTS != 0
+    }
+
+    /// "then the oldest is loaded if there is one, EFCR 2 is clear, and EFR 7 is clear or CTS is asserted"; of
+    /// what waits, "the next slot with EFCR 2 clear loads it before the queue, despite a stop or CTS".
+    #[inline]
+    fn load(&mut self) {
+        let w = self.w;
+        let enabled = !bit(self.efcr, 2);
+        let clear = self.clear_to_send();
+        if self.waiting.is_some()
+            && (enabled || w.has(WaitingDisabled))
+            && !(self.stopped && w.has(WaitingStopped))
+            && !(!clear && w.has(WaitingCts))
+            && !(!self.to_send.is_empty() && w.has(WaitingAfter))
+        {
+            self.shift = w.pick(self.waiting, PutAtLoad, self.sent().map(|pair| self.put(pair, self.second)));
+            self.waiting = w.pick(None, WaitingStays, self.waiting);
+            if w.has(WaitingTakes) {
+                self.to_send.pop_front();
+            }
+        } else if (enabled || w.has(DisabledLoads))
+            && (clear || w.has(CtsIgnored))
+            && (!self.stopped || w.has(StopIgnored))
+        {
+            self.shift = self.to_send.pop_front();
+        }
+        if w.has(CutAtLoad) {
+            self.shift = self.shift.map(|byte| self.cut(byte));
+        }
     }
 
     // Trigger levels.
@@ -677,7 +898,9 @@ impl<S: Switch> Channel<S> {
         let w = self.w;
         let turned = bit(self.efcr, 5) && !w.has(RtsUnturned);
         if bit(self.efcr, 4) && !(w.has(RtsLatchFirst) && bit(self.efr, 6)) {
-            let sending = !self.to_send.is_empty() || self.shift.is_some() && !w.has(RtsQueueOnly);
+            let sending = !self.to_send.is_empty()
+                || self.shift.is_some() && !w.has(RtsQueueOnly)
+                || self.waiting.is_some() && w.has(RtsWaiting);
             return sending != turned;
         }
         let rts = if bit(self.efr, 6) { self.latch } else { bit(self.mcr, w.pick(1, RtsByMcrZero, 0)) };
@@ -694,7 +917,7 @@ impl<S: Switch> Channel<S> {
             let (spaces, level) = (self.spaces(), self.transmit_level());
             w.pick(spaces >= level, TransmitAbove, spaces > level)
         } else {
-            self.to_send.is_empty()
+            self.to_send.is_empty() && !(self.waiting.is_some() && w.has(ThrWaiting))
         }
     }
 
@@ -728,8 +951,10 @@ impl<S: Switch> Channel<S> {
             let uncounted = w.pick(bit(self.efr, 7), ModemCountsCts, false) || w.has(ModemLeavesCts);
             bit(ier, 3) && self.changes & if uncounted { 0x0E } else { 0x0F } != 0
         };
-        // "IER 5 and special flag"
-        let special = || bit(ier, w.pick(5, SpecialByFour, 4)) && self.special_flag;
+        // "IER 5 and special flag"; "Code 10 is now pending on either flag".
+        let special = || {
+            bit(ier, w.pick(5, SpecialByFour, 4)) && (self.special_flag || self.stopped && !w.has(XoffUnseen))
+        };
         // "IER 7 and CTS flag, or IER 6 and RTS flag"
         let flow = || {
             let (cts, rts) = w.pick((7, 6), FlowExchanged, (6, 7));
@@ -768,14 +993,19 @@ impl<S: Switch> Channel<S> {
     }
 
     /// "IIR is C0 (if FCR 0) plus the code, from the state before the read. Reading it clears the THR flag if
-    /// 02 was shown, the special flag if 10, CTS and RTS flags if 20."
+    /// 02 was shown, the special flag if 10, CTS and RTS flags if 20"; of the two behind 10, "the special flag
+    /// only".
     fn read_iir(&mut self) -> u8 {
         let w = self.w;
         let code = self.code();
         match code {
             0x02 => self.thr_flag = w.pick(false, IirKeepsThr, self.thr_flag),
             0x10 if w.has(IirWrongFlag) => (self.cts_flag, self.rts_flag) = (false, false),
-            0x10 => self.special_flag = w.pick(false, IirKeepsSpecial, self.special_flag),
+            0x10 => {
+                let kept = w.has(IirKeepsSpecial) || w.has(IirOneFlag) && self.stopped;
+                self.special_flag &= kept;
+                self.stopped &= !w.has(IirResumes);
+            }
             0x20 => {
                 self.cts_flag = w.pick(false, IirKeepsCts, self.cts_flag);
                 self.rts_flag = w.pick(false, IirKeepsRts, self.rts_flag);
@@ -1001,5 +1231,122 @@ mod tests {
     fn marks_and_windows() {
         let events = [[0, 0, 2, 1], [2, 0, 1, 0], [2, 0, 2, 2], [1, 0, 5, 0], [0, 0, 3, 0xBF], [1, 0, 0, 0]];
         assert_eq!(replies(&events), [0, 0, 0, 0xE1, 0, 0]);
+    }
+
+    const XON: u64 = 0x11;
+    const XOFF: u64 = 0x13;
+    const SLOT: [u64; 4] = [3, 0, 0, 0];
+    const IIR: [u64; 4] = [1, 0, 2, 0];
+    const LSR: [u64; 4] = [1, 0, 5, 0];
+    const RHR: [u64; 4] = [1, 0, 0, 0];
+
+    fn arrival(byte: u64) -> [u64; 4] {
+        [2, 0, byte, 0]
+    }
+
+    /// The replies with an EFR, Xon and Xoff in both pairs (the second with bit 5 set), IER 5 and 8 bits.
+    fn with_efr(efr: u64, events: &[[u64; 4]]) -> Vec<u32> {
+        let setup = [
+            [0, 0, 3, 0xBF],
+            [0, 0, 4, XON],
+            [0, 0, 5, XON | 0x20],
+            [0, 0, 6, XOFF],
+            [0, 0, 7, XOFF | 0x20],
+            [0, 0, 2, efr | 0x10],
+            [0, 0, 3, 3],
+            [0, 0, 1, 0x20],
+            [0, 0, 2, 1],
+        ];
+        replies(&[&setup[..], events].concat())[setup.len()..].to_vec()
+    }
+
+    #[test]
+    fn xoff_stops_and_xon_resumes() {
+        let events = [[0, 0, 0, 0x41], arrival(XOFF), IIR, IIR, SLOT, SLOT, [1, 0, 9, 0]];
+        assert_eq!(with_efr(2, &events), [0, 4, 0xD0, 0xD0, 256, 256, 0]);
+        let events = [[0, 0, 0, 0x41], arrival(XOFF), SLOT, arrival(XON), IIR, SLOT, SLOT];
+        assert_eq!(with_efr(2, &events), [0, 4, 256, 4, 0xC1, 256, 0x41]);
+    }
+
+    #[test]
+    fn pairs() {
+        let events = [XON, XOFF, XON | 0x20, XOFF | 0x20].map(arrival);
+        assert_eq!(with_efr(0, &events), [0, 0, 0, 0]);
+        assert_eq!(with_efr(1, &events), [0, 0, 4, 4]);
+        assert_eq!(with_efr(2, &events), [4, 4, 0, 0]);
+        assert_eq!(with_efr(3, &events), [0, 0, 0, 0]);
+    }
+
+    #[test]
+    fn what_is_not_taken() {
+        // A mark, a special match, 9-bit mode.
+        assert_eq!(with_efr(2, &[[2, 0, XOFF, 1], IIR]), [0, 0xC1]);
+        assert_eq!(with_efr(0x21, &[arrival(XOFF | 0x20), IIR, IIR]), [0, 0xD0, 0xC1]);
+        assert_eq!(with_efr(2, &[[0, 0, 15, 1], arrival(XOFF), IIR]), [0, 0, 0xC1]);
+        // "equals, cut, the whole Xoff"
+        assert_eq!(with_efr(2, &[[0, 0, 3, 0], arrival(XOFF | 0xE0)]), [0, 4]);
+        assert_eq!(with_efr(1, &[[0, 0, 3, 0], arrival(XOFF | 0x20)]), [0, 0]);
+    }
+
+    #[test]
+    fn xoff_decides() {
+        let same = [[0, 0, 3, 0xBF], [0, 0, 4, XOFF], [0, 0, 3, 3]];
+        assert_eq!(with_efr(2, &[&same[..], &[arrival(XOFF), IIR]].concat())[3..], [4, 0xD0]);
+    }
+
+    #[test]
+    fn any_other_resumes() {
+        let any = [[0, 0, 4, 0x20], arrival(XOFF), IIR, [2, 0, 0x41, 2], IIR, [1, 0, 9, 0]];
+        assert_eq!(with_efr(2, &any), [0, 4, 0xD0, 0, 0xC1, 1]);
+        // Lost, without the FIFO.
+        let any = [[0, 0, 4, 0x20], [0, 0, 2, 0], arrival(0x41), arrival(XOFF), IIR, arrival(0x42), IIR];
+        assert_eq!(with_efr(2, &any), [0, 0, 0, 4, 0x10, 1, 0x01]);
+    }
+
+    #[test]
+    fn efr_resumes() {
+        let set = |efr| [arrival(XOFF), [0, 0, 3, 0xBF], [0, 0, 2, efr], [0, 0, 3, 3], IIR];
+        assert_eq!([0, 1, 2, 3].map(|efr| with_efr(2, &set(efr))[4]), [0xC1, 0xD0, 0xD0, 0xC1]);
+    }
+
+    /// Halt 4 and resume 0.
+    const LEVELS: [[u64; 4]; 2] = [[0, 0, 4, 4], [0, 0, 6, 1]];
+
+    fn sending(efr: u64, events: &[[u64; 4]]) -> Vec<u32> {
+        let filled = [&LEVELS[..], &[arrival(0x41); 4], events].concat();
+        with_efr(efr, &filled)[6..].to_vec()
+    }
+
+    #[test]
+    fn xoff_and_xon_are_sent() {
+        // Before the queue, and LSR 6 sees what waits.
+        assert_eq!(sending(8, &[LSR, SLOT, LSR, SLOT, LSR]), [0x21, 256, 0x21, XOFF as u32, 0x61]);
+        assert_eq!(sending(8, &[[0, 0, 0, 0x42], SLOT, SLOT, SLOT]), [0, 256, XOFF as u32, 0x42]);
+        assert_eq!(sending(4, &[SLOT, SLOT])[1], XOFF as u32 | 0x20);
+        assert_eq!([0, 12].map(|efr| sending(efr, &[LSR])[0]), [0x61, 0x61]);
+        // Xon replaces the Xoff that still waits.
+        assert_eq!(sending(8, &[RHR, RHR, RHR, RHR, SLOT, SLOT, LSR])[4..], [256, XON as u32, 0x60]);
+    }
+
+    #[test]
+    fn what_holds_back_what_waits() {
+        // A stop and CTS don't, EFCR 2 does.
+        assert_eq!(sending(0x8A, &[arrival(XOFF), SLOT, SLOT]), [4, 256, XOFF as u32]);
+        let disabled = [[0, 0, 15, 4], SLOT, SLOT, [0, 0, 15, 0], SLOT, SLOT];
+        assert_eq!(sending(8, &disabled), [0, 256, 256, 0, 256, XOFF as u32]);
+    }
+
+    #[test]
+    fn the_byte_is_as_stored_then() {
+        let set = |address, byte| [[0, 0, 3, 0xBF], [0, 0, address, byte], [0, 0, 3, 3], SLOT, SLOT];
+        assert_eq!(sending(8, &set(6, 0x55))[4], XOFF as u32);
+        // A change of the pair drops nothing; 00 and 11 do.
+        assert_eq!([0x04, 0x00, 0x0C].map(|efr| sending(8, &set(2, efr))[4]), [XOFF as u32, 256, 256]);
+    }
+
+    #[test]
+    fn a_reset_drops_and_resumes() {
+        let events = [arrival(XOFF), [6, 0, 0, 0], LSR, [0, 0, 0, 0x0A], SLOT, SLOT, LSR];
+        assert_eq!(sending(10, &events), [4, 0, 0x60, 0, 256, 0x0A, 0x60]);
     }
 }

@@ -1,4 +1,4 @@
-//! Small wrong changes of the second model: each takes one rule of document 01 and has it wrong once.
+//! Small wrong changes of the second model: each takes one rule of the documents and has it wrong once.
 //!
 //! Left out, since no event can tell them from the right rule:
 //! - FCR 3, 2 or 1 stored: FCR is never read and nothing acts on those bits.
@@ -7,6 +7,11 @@
 //! - The quiet count stopping above 4, if 4 and above count as 4.
 //! - The latch left off by a reset: EFR is behind a write of LCR, which finds EFR 6 clear and asserts it.
 //! - Looks and reads of closed addresses run through the latch and the flags: a second run changes nothing.
+//! - Only a change of EFR 1:0 or 3:2 to 00 or 11 resuming, dropping or setting the second latch on: where they
+//!   were 00 or 11 before, nothing is stopped, nothing waits and that latch is on.
+//! - MCR 5 resuming only while EFR 1:0 compares: else nothing is stopped.
+//! - The second latch stepped before the act, before the first latch or after the flags: that latch and the
+//!   flags don't look at it or at what it puts, and nothing happens between an event and the next act.
 use crate::model::Switch;
 
 macro_rules! wrongs {
@@ -71,14 +76,12 @@ wrongs! {
     DlhUnguarded: "DLH is taken while IER 4 is set",
     // Bits stored without other effect.
     LcrSixLost: "LCR 6 isn't stored",
-    EfrLowLost: "EFR 3:0 aren't stored",
     McrTopLost: "MCR 7:5 aren't stored",
     IerFourLost: "IER 4 isn't stored",
     LoopbackActs: "MCR 4 shuts arrivals out",
     BreakActs: "LCR 6 holds the slots",
     SleepActs: "IER 4 holds the slots",
     DivisorActs: "a divisor of 0 holds the slots",
-    SoftFlowActs: "EFR 1 takes an arrived XOFF1 out",
     CommonSpr: "the channels have one SPR",
     // Reset.
     ResetLcr: "reset makes LCR 03",
@@ -233,4 +236,84 @@ wrongs! {
     MsrKeeps: "an MSR read keeps MSR 3:0",
     CtsFlagWithAuto: "the CTS flag sets with EFR 7",
     CtsFlagOn: "the CTS flag sets on CTS going on",
+    // Xon and Xoff.
+    EfrLowLost: "EFR 3:0 aren't stored",
+    ComparedTurned: "EFR 1:0 of 10 compares the second pair and 01 the first",
+    ComparedFirst: "the first pair is compared with EFR 1:0 of 01 too",
+    ComparedEleven: "EFR 1:0 of 11 compares the first pair",
+    ComparedZero: "EFR 1:0 of 00 compares the first pair",
+    SentTurned: "EFR 3:2 of 10 sends the second pair and 01 the first",
+    SentFirst: "the first pair is sent with EFR 3:2 of 01 too",
+    SentEleven: "EFR 3:2 of 11 sends the first pair",
+    SentZero: "EFR 3:2 of 00 sends the first pair",
+    PairsExchanged: "EFR 3:2 is what is compared and 1:0 what is sent",
+    XonDecides: "Xon decides where Xon and Xoff are equal",
+    XonStopped: "Xon is taken only while stopped",
+    XoffOnce: "Xoff isn't taken while stopped",
+    XonIdle: "Xon resumes nothing",
+    SpecialTaken: "a special match is taken as Xon or Xoff",
+    MarkedTaken: "a marked character is taken as Xon or Xoff",
+    NineBitTaken: "Xon and Xoff are taken in 9-bit mode",
+    DisabledTaken: "a disabled receiver takes Xon and Xoff",
+    TakenUncut: "the uncut byte is compared with Xon and Xoff",
+    XonCut: "Xon and Xoff are cut for the comparison",
+    XoffQueued: "Xoff is queued as well",
+    XonQueued: "Xon is queued as well",
+    TakenKept: "Xon and Xoff have fate 0",
+    TakenDropped: "Xon and Xoff have fate 2",
+    FullFirst: "a full queue loses Xon and Xoff",
+    TakenOverrun: "Xon and Xoff set overrun if the queue is full",
+    QuietTaken: "Xon and Xoff leave the quiet count",
+    XoffSpecial: "Xoff sets the special flag too",
+    XoffUnseen: "10 is by the special flag only",
+    IirResumes: "an IIR read of 10 resumes",
+    IirOneFlag: "an IIR read of 10 keeps the special flag while stopped",
+    StopByIer: "Xoff stops only with IER 5",
+    StopIgnored: "a stop doesn't stop loading",
+    StopHolds: "a stop holds the held character as well",
+    AnyIgnored: "MCR 5 doesn't resume",
+    AnyAlways: "any character resumes without MCR 5",
+    AnyGuarded: "MCR 5 resumes only with EFR 4",
+    AnyKept: "MCR 5 resumes by kept characters only",
+    AnyPlain: "MCR 5 doesn't resume in 9-bit mode",
+    AnyUnmarked: "MCR 5 resumes by unmarked characters only",
+    AnyNotSpecial: "MCR 5 doesn't resume by a special match",
+    AnyDropped: "MCR 5 resumes by dropped characters too",
+    AnyTaken: "a character that resumes by MCR 5 isn't queued",
+    AnyXoff: "with MCR 5 Xoff resumes as well",
+    ZeroKeepsStop: "EFR 1:0 set to 00 doesn't resume",
+    ElevenKeepsStop: "EFR 1:0 set to 11 doesn't resume",
+    ComparedChange: "a change of EFR 1:0 from one pair to the other resumes",
+    ZeroKeepsWaiting: "EFR 3:2 set to 00 keeps what waits",
+    ElevenKeepsWaiting: "EFR 3:2 set to 11 keeps what waits",
+    SentKeepsSecond: "EFR 3:2 set to 00 or 11 leaves the second latch",
+    SentChange: "a change of EFR 3:2 from one pair to the other drops what waits",
+    SentChangeSecond: "a change of EFR 3:2 from one pair to the other sets the second latch on",
+    SecondByRts: "the second latch steps only with EFR 6",
+    SecondWithoutRts: "the second latch steps only without EFR 6",
+    SecondAlways: "the second latch steps while nothing is sent, too",
+    SecondByTlr: "the second latch halts at the receive level",
+    PutAgain: "Xoff is put at each event while the second latch is off",
+    PutTurned: "Xon is put for off and Xoff for on",
+    PutAtLoad: "Xon and Xoff are read when they are loaded",
+    PutCut: "Xon and Xoff are cut when they are put",
+    XonUnsent: "the second latch turning on puts nothing",
+    FirstStays: "one that waits isn't replaced",
+    TurnDrops: "a turn while one waits drops it and puts nothing",
+    WaitingStopped: "a stop holds back what waits",
+    WaitingCts: "CTS holds back what waits",
+    WaitingDisabled: "EFCR 2 doesn't hold back what waits",
+    WaitingAfter: "what waits goes after the queue",
+    WaitingTakes: "what waits takes the place of the queue's oldest",
+    WaitingStays: "what waits stays when it is loaded",
+    WaitingLeaves: "what waits leaves in the slot that loads it",
+    ClearWaiting: "a transmit clear drops what waits",
+    LsrSixWaiting: "LSR 6 doesn't look at what waits",
+    LsrFiveWaiting: "LSR 5 looks at what waits",
+    LevelWaiting: "TXLVL counts what waits",
+    ThrWaiting: "the THR condition without FCR 0 looks at what waits",
+    RtsWaiting: "EFCR 4 looks at what waits",
+    ResetKeepsStop: "reset doesn't resume",
+    ResetKeepsWaiting: "reset keeps what waits",
+    ResetKeepsSecond: "reset leaves the second latch",
 }

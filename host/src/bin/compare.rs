@@ -37,9 +37,11 @@ enum Mood {
     Windows,
     OutOfRange,
     Audit,
+    Xoff,
+    Sent,
 }
 
-const MOODS: [Mood; 15] = [
+const MOODS: [Mood; 17] = [
     Mood::Fiddle,
     Mood::Receive,
     Mood::Transmit,
@@ -55,6 +57,8 @@ const MOODS: [Mood; 15] = [
     Mood::Windows,
     Mood::OutOfRange,
     Mood::Audit,
+    Mood::Xoff,
+    Mood::Sent,
 ];
 
 /// Makes events, a stretch at a time.
@@ -67,7 +71,8 @@ struct Script {
 impl Script {
     fn new(seed: u64) -> Script {
         let mut random = Random::new(seed);
-        let moods = (0..2 + random.below(4)).map(|_| MOODS[random.below(15) as usize]).collect();
+        let moods =
+            (0..2 + random.below(4)).map(|_| MOODS[random.below(MOODS.len() as u64) as usize]).collect();
         Script { random, moods, events: VecDeque::new() }
     }
 
@@ -78,7 +83,7 @@ impl Script {
         }
         while self.events.is_empty() {
             let mood = if self.random.once_in(4) {
-                MOODS[self.random.below(15) as usize]
+                MOODS[self.random.below(MOODS.len() as u64) as usize]
             } else {
                 self.moods[self.random.below(self.moods.len() as u64) as usize]
             };
@@ -155,6 +160,62 @@ impl Script {
         self.write(channel, 3, 0xBF);
         self.write(channel, 2, efr);
         self.general(channel);
+    }
+
+    /// A register of window BF and back, with a word length.
+    fn enhanced(&mut self, channel: u64, address: u64, byte: u64, word: u64) {
+        self.write(channel, 3, 0xBF);
+        self.write(channel, address, byte);
+        if self.random.once_in(8) {
+            self.push([SLOT, channel, 0, 0]);
+        }
+        self.write(channel, 3, word);
+    }
+
+    /// XON1, XON2, XOFF1 and XOFF2: mostly such as the word length leaves whole, at times the same.
+    fn pairs(&mut self, channel: u64, mask: u64) -> [u64; 4] {
+        let mut pairs = [0; 4];
+        self.write(channel, 3, 0xBF);
+        for at in 0..4 {
+            pairs[at] = match self.below(6) {
+                0 => pairs[self.below(4) as usize],
+                1 => self.below(256),
+                _ => self.below(256) & mask,
+            };
+            self.write(channel, 4 + at as u64, pairs[at]);
+        }
+        pairs
+    }
+
+    /// Writes something again that Xon and Xoff hang on.
+    fn rewrite(&mut self, channel: u64, efr: u64, word: u64) {
+        match self.below(9) {
+            0..=2 => {
+                let high = if self.random.once_in(2) { efr } else { self.below(16) << 4 };
+                let low = if self.random.once_in(2) { self.one_of(&[5, 6, 9, 10]) } else { self.below(16) };
+                self.enhanced(channel, 2, high & 0xF0 | low, word);
+            }
+            3 | 4 => {
+                let (address, byte) = (4 + self.below(4), self.below(256));
+                self.enhanced(channel, address, byte, word);
+            }
+            5 => {
+                let efcr = self.one_of(&[0, 0, 0, 0, 1, 2, 3, 4, 4, 0x10, 0x30]);
+                self.write(channel, 15, efcr);
+            }
+            6 => {
+                let mcr = self.one_of(&[0, 0x20, 0x24, 4]);
+                self.write(channel, 4, mcr);
+            }
+            7 => {
+                let word = self.below(4);
+                self.write(channel, 3, word);
+            }
+            _ => {
+                let pins = self.below(16);
+                self.push([PINS, channel, pins, 0]);
+            }
+        }
     }
 
     /// A byte of two levels: none, the one, the other, or any.
@@ -575,7 +636,14 @@ impl Script {
                     // The flags that a reset must clear, seen before anything else happens.
                     for channel in 0..2 {
                         self.read(channel, 3);
-                        self.efr(channel, 0x10);
+                        if self.random.once_in(2) {
+                            self.read(channel, 5);
+                            self.write(channel, 0, 0x41);
+                            self.push([SLOT, channel, 0, 0]);
+                            self.push([SLOT, channel, 0, 0]);
+                        }
+                        let low = if self.random.once_in(2) { self.below(16) } else { 0 };
+                        self.efr(channel, 0x10 | low);
                         let ier = self.one_of(&[0xFF, 0xF0, 0x0F, 0x20, 0xC0]);
                         self.write(channel, 1, ier);
                         for _ in 0..6 {
@@ -583,6 +651,8 @@ impl Script {
                         }
                         self.read(channel, 5);
                         self.read(channel, 6);
+                        self.push([SLOT, channel, 0, 0]);
+                        self.push([SLOT, channel, 0, 0]);
                     }
                 }
             }
@@ -629,6 +699,107 @@ impl Script {
                 }
             }
             Mood::Audit => self.audit(channel),
+            Mood::Xoff => {
+                let word = self.below(4);
+                let pairs = self.pairs(channel, 0xFF >> (3 - word));
+                let low = if self.random.once_in(4) { self.below(16) } else { self.one_of(&[1, 2, 5, 10]) };
+                let efr = self.one_of(&[0, 0x20, 0x20, 0x80]) | low;
+                self.enhanced(channel, 2, efr | 0x10, word);
+                let ier = self.one_of(&[0x20, 0x20, 0x21, 0x01, 0xFF]);
+                self.write(channel, 1, ier);
+                let mcr = self.one_of(&[0, 0x20]);
+                self.write(channel, 4, mcr);
+                let fcr = self.one_of(&[0x00, 0x01, 0x03]);
+                self.write(channel, 2, fcr);
+                if self.random.once_in(2) {
+                    self.enhanced(channel, 2, efr, word);
+                }
+                self.write(channel, 15, 0);
+                for _ in 0..self.below(80) {
+                    // Now and then a character that the receiver has another rule for.
+                    let efcr = if self.random.once_in(6) { self.one_of(&[1, 2, 3]) } else { 0 };
+                    if efcr != 0 {
+                        self.write(channel, 15, efcr);
+                    }
+                    let byte = match self.below(8) {
+                        0..=4 => pairs[self.below(4) as usize],
+                        5 => pairs[self.below(4) as usize] ^ 1 << self.below(8),
+                        _ => self.below(256),
+                    };
+                    let mark = if self.random.once_in(5) { self.below(8) } else { 0 };
+                    self.push([ARRIVAL, channel, byte, mark]);
+                    if efcr != 0 {
+                        self.write(channel, 15, 0);
+                    }
+                    match self.below(12) {
+                        0 | 1 => self.read(channel, 2),
+                        2 => self.read(channel, 5),
+                        3 | 4 => self.push([SLOT, channel, 0, 0]),
+                        5 | 6 => {
+                            let byte = self.below(256);
+                            self.write(channel, 0, byte);
+                            self.push([SLOT, channel, 0, 0]);
+                        }
+                        7 => {
+                            for _ in 0..4 {
+                                self.push([QUIET, channel, 0, 0]);
+                            }
+                        }
+                        8 => self.read(channel, 0),
+                        9 => self.glance(channel),
+                        10 => self.rewrite(channel, efr, word),
+                        _ => {}
+                    }
+                }
+            }
+            Mood::Sent => {
+                let word = if self.random.once_in(3) { self.below(4) } else { 3 };
+                let pairs = self.pairs(channel, 0xFF);
+                let low = if self.random.once_in(4) { self.below(16) } else { self.one_of(&[4, 8, 5, 10]) };
+                let efr = self.one_of(&[0, 0, 0x40, 0x80]) | low;
+                self.enhanced(channel, 2, efr | 0x10, word);
+                self.write(channel, 4, 4);
+                // Low levels, so that the latch turns often.
+                let tcr = self.one_of(&[0x00, 0x01, 0x02, 0x10, 0x11, 0x12, 0x13, 0x21]);
+                self.write(channel, 6, tcr);
+                self.write(channel, 15, 0);
+                let fcr = self.one_of(&[0x01, 0x01, 0x01, 0x41, 0x00]);
+                self.write(channel, 2, fcr);
+                if self.random.once_in(2) {
+                    self.enhanced(channel, 2, efr, word);
+                }
+                for _ in 0..self.below(30) {
+                    let (moved, up) = (self.below(8), self.random.once_in(2));
+                    for _ in 0..moved {
+                        if up {
+                            let byte = self.below(256);
+                            self.push([ARRIVAL, channel, byte, 1]);
+                        } else {
+                            self.read(channel, 0);
+                        }
+                    }
+                    for _ in 0..self.below(4) {
+                        match self.below(9) {
+                            0 => {
+                                let byte = self.below(256);
+                                self.write(channel, 0, byte);
+                            }
+                            1 => self.read(channel, 5),
+                            2 => self.glance(channel),
+                            3 | 4 => self.rewrite(channel, efr, word),
+                            5 => {
+                                let fcr = self.one_of(&[0x01, 0x03, 0x05, 0x41, 0x00]);
+                                self.write(channel, 2, fcr);
+                            }
+                            6 => {
+                                let byte = pairs[self.below(4) as usize];
+                                self.push([ARRIVAL, channel, byte, 0]);
+                            }
+                            _ => self.push([SLOT, channel, 0, 0]),
+                        }
+                    }
+                }
+            }
         }
     }
 
@@ -639,6 +810,9 @@ impl Script {
         for address in [2, 5, 6, 2, 9, 8, 4, 1, 15, 7] {
             self.read(channel, address);
         }
+        // The EFR below drops what waits.
+        self.push([SLOT, channel, 0, 0]);
+        self.push([SLOT, channel, 0, 0]);
         self.write(channel, 3, 0xBF);
         for address in [2, 4, 5, 6, 7] {
             self.read(channel, address);
