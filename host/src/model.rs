@@ -1,6 +1,7 @@
 //! A second model of document 01 and of document 02's request 01, written by hand from the documents alone.
 //!
-//! `Model` is the plain one. `Machine` with a `Wrong` has one rule wrong; the plain model pays nothing for it.
+//! `Model` is the plain one. `Machine` with a `Wrong` has one rule wrong, with `Before` it is without the
+//! request; the plain model pays nothing for them.
 use crate::wrong::Wrong::{self, *};
 use crate::Answer;
 use std::collections::VecDeque;
@@ -8,6 +9,12 @@ use std::collections::VecDeque;
 /// Says which rule is wrong.
 pub trait Switch: Copy {
     fn has(self, wrong: Wrong) -> bool;
+
+    /// Whether EFR 3:0 act, which document 01 alone only stores.
+    #[inline(always)]
+    fn xon_xoff(self) -> bool {
+        true
+    }
 
     /// The right value, unless the wrong change is on.
     #[inline(always)]
@@ -23,6 +30,22 @@ pub struct Right;
 impl Switch for Right {
     #[inline(always)]
     fn has(self, _: Wrong) -> bool {
+        false
+    }
+}
+
+/// No rule is wrong, and the request isn't there yet.
+#[derive(Clone, Copy, Debug)]
+pub struct Before;
+
+impl Switch for Before {
+    #[inline(always)]
+    fn has(self, _: Wrong) -> bool {
+        false
+    }
+
+    #[inline(always)]
+    fn xon_xoff(self) -> bool {
         false
     }
 }
@@ -568,6 +591,7 @@ impl<S: Switch> Channel<S> {
     fn pair(&self, bits: u8, [turned, first, eleven, zero]: [Wrong; 4]) -> Option<usize> {
         let w = self.w;
         match bits & 3 {
+            _ if !w.xon_xoff() => None,
             2 => Some(w.pick(0, turned, 1)),
             1 => Some(w.pick(w.pick(1, turned, 0), first, 0)),
             3 if w.has(eleven) => Some(0),
@@ -1162,6 +1186,11 @@ impl<S: Switch> Machine<S> {
         self.channels[..reset].iter_mut().for_each(Channel::reset);
     }
 
+    /// Whether a write to address 2 of a channel is one of EFR now.
+    pub fn efr_open(&self, channel: u64) -> bool {
+        channel < 2 && self.channels[channel as usize].window() == Window::Enhanced
+    }
+
     /// The addresses of a channel whose reads change nothing now.
     pub fn still_addresses(&self, channel: usize) -> &'static [u64] {
         let c = &self.channels[channel];
@@ -1348,5 +1377,14 @@ mod tests {
     fn a_reset_drops_and_resumes() {
         let events = [arrival(XOFF), [6, 0, 0, 0], LSR, [0, 0, 0, 0x0A], SLOT, SLOT, LSR];
         assert_eq!(sending(10, &events), [4, 0, 0x60, 0, 256, 0x0A, 0x60]);
+    }
+
+    #[test]
+    fn before_the_request() {
+        let mut model = Machine::with(Before);
+        for [kind, x, y, z] in [[0, 0, 3, 0xBF], [0, 0, 2, 0x0F], [0, 0, 2, 0x0A], [0, 0, 3, 3]] {
+            model.step(kind, x, y, z);
+        }
+        assert_eq!(model.step(2, 0, 0, 0), Answer::Reply(KEPT));
     }
 }

@@ -2,10 +2,12 @@
 //!
 //! usage: compare SEED HISTORIES [LENGTH]
 //!        compare --wrong SEED HISTORIES [LENGTH]
+//!        compare --before SEED HISTORIES [LENGTH]
 //!
 //! With --wrong each wrong change of the second model takes its place in turn, and those that no history
-//! tells from the chip are named.
-use host::model::{Machine, Right, Switch};
+//! tells from the chip are named. With --before EFR 3:0 stay clear in every history, and the chip is compared
+//! with the second model as document 01 alone has it.
+use host::model::{Before, Machine, Right, Switch};
 use host::{wrong, Answer, Chip, Event, Random};
 use std::collections::VecDeque;
 
@@ -849,6 +851,7 @@ impl Script {
 
 /// A chip and a model side by side, with the events they had.
 struct Pair<S> {
+    switch: S,
     chip: Chip,
     model: Machine<S>,
     past: Vec<(Event, Answer)>,
@@ -862,7 +865,11 @@ struct Difference {
 
 impl<S: Switch> Pair<S> {
     fn step(&mut self, event: Event) -> Result<(), Answer> {
-        let [kind, x, y, z] = event;
+        let [kind, x, y, mut z] = event;
+        if !self.switch.xon_xoff() && kind == WRITE && y == 2 && self.model.efr_open(x) {
+            z &= !0x0F;
+        }
+        let event = [kind, x, y, z];
         let chip = self.chip.step(kind, x, y, z);
         let model = self.model.step(kind, x, y, z);
         self.past.push((event, chip));
@@ -909,7 +916,7 @@ impl<S: Switch> Pair<S> {
 
 /// One history: how many answers were the same, or where they part.
 fn compare<S: Switch>(switch: S, seed: u64, length: Option<usize>) -> Result<usize, Difference> {
-    let mut pair = Pair { chip: Chip::new(), model: Machine::with(switch), past: Vec::new() };
+    let mut pair = Pair { switch, chip: Chip::new(), model: Machine::with(switch), past: Vec::new() };
     match pair.history(seed, length) {
         Ok(()) => Ok(pair.past.len()),
         Err(model) => Err(Difference { past: pair.past, model }),
@@ -936,10 +943,10 @@ fn report(seed: u64, difference: &Difference) {
     }
 }
 
-fn plain(seed: u64, histories: u64, length: Option<usize>) {
+fn all_same<S: Switch>(switch: S, seed: u64, histories: u64, length: Option<usize>) {
     let mut compared = 0;
     for seed in seed..seed + histories {
-        match compare(Right, seed, length) {
+        match compare(switch, seed, length) {
             Ok(answers) => compared += answers,
             Err(difference) => {
                 report(seed, &difference);
@@ -947,7 +954,8 @@ fn plain(seed: u64, histories: u64, length: Option<usize>) {
             }
         }
     }
-    println!("compare: {histories} histories, {compared} answers, all the same");
+    let with = if switch.xon_xoff() { "" } else { " with EFR 3:0 clear and a model without Xon and Xoff" };
+    println!("compare: {histories} histories, {compared} answers{with}, all the same");
 }
 
 fn wrong_ones(seed: u64, histories: u64, length: Option<usize>) {
@@ -972,24 +980,27 @@ fn wrong_ones(seed: u64, histories: u64, length: Option<usize>) {
     }
 }
 
+fn usage() -> ! {
+    eprintln!("usage: compare [--wrong | --before] SEED HISTORIES [LENGTH]");
+    std::process::exit(2);
+}
+
 fn main() {
     let mut arguments: Vec<String> = std::env::args().skip(1).collect();
-    let wrong = arguments.first().is_some_and(|first| first == "--wrong");
-    if wrong {
+    let mode = arguments.first().filter(|first| first.starts_with("--")).cloned().unwrap_or_default();
+    if !mode.is_empty() {
         arguments.remove(0);
     }
     let numbers: Option<Vec<u64>> = arguments.iter().map(|argument| argument.parse().ok()).collect();
     let (seed, histories, length) = match numbers.as_deref() {
         Some(&[seed, histories]) => (seed, histories, None),
         Some(&[seed, histories, length]) => (seed, histories, Some(length as usize)),
-        _ => {
-            eprintln!("usage: compare [--wrong] SEED HISTORIES [LENGTH]");
-            std::process::exit(2);
-        }
+        _ => usage(),
     };
-    if wrong {
-        wrong_ones(seed, histories, length);
-    } else {
-        plain(seed, histories, length);
+    match mode.as_str() {
+        "" => all_same(Right, seed, histories, length),
+        "--before" => all_same(Before, seed, histories, length),
+        "--wrong" => wrong_ones(seed, histories, length),
+        _ => usage(),
     }
 }
