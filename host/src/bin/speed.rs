@@ -10,6 +10,10 @@ use std::time::Instant;
 /// Eight data bits, both queues on, all interrupts but the enhanced ones enabled.
 const SETUP: [Event; 3] = [[0, 0, 3, 0x03], [0, 0, 2, 0x01], [0, 0, 1, 0x0F]];
 
+/// XON1 11, XOFF1 13, and EFR 1:0 of 10: what the sort of Xoff and Xon needs besides.
+const XON_XOFF: [Event; 5] =
+    [[0, 0, 3, 0xBF], [0, 0, 4, 0x11], [0, 0, 6, 0x13], [0, 0, 2, 0x02], [0, 0, 3, 0x03]];
+
 /// The sorts of events, each a round that leaves the queues as they were.
 const SORTS: [(&str, &[Event]); 8] = [
     ("write SPR", &[[0, 0, 7, 0x55]]),
@@ -50,6 +54,11 @@ fn mixed(random: &mut Random, events: usize) -> Vec<Event> {
     traffic
 }
 
+/// A round over and over.
+fn rounds(round: &[Event], events: usize) -> Vec<Event> {
+    round.iter().copied().cycle().take(events).collect()
+}
+
 fn sum(answer: Answer) -> u64 {
     match answer {
         Answer::Reply(n) => n as u64,
@@ -71,10 +80,10 @@ fn time(events: &[Event], mut step: impl FnMut(Event) -> Answer) -> (f64, u64) {
     (best, total)
 }
 
-fn compare(name: &str, events: &[Event]) {
+fn compare(name: &str, setup: &[Event], events: &[Event]) {
     let mut chip = Chip::new();
     let mut model = Model::new();
-    for e in SETUP.iter().chain(&SETUP.map(|e| [e[0], 1, e[2], e[3]])) {
+    for e in SETUP.iter().chain(&SETUP.map(|e| [e[0], 1, e[2], e[3]])).chain(setup) {
         chip.step(e[0], e[1], e[2], e[3]);
         model.step(e[0], e[1], e[2], e[3]);
     }
@@ -91,8 +100,8 @@ fn main() {
     };
     println!("{:<20} {:>10} {:>14} {:>8}", "ns an event", "lent step", "second model", "ratio");
     for (name, round) in SORTS {
-        let events: Vec<Event> = round.iter().copied().cycle().take(events).collect();
-        compare(name, &events);
+        compare(name, &[], &rounds(round, events));
     }
-    compare("mixed traffic", &mixed(&mut Random::new(1), events));
+    compare("Xoff, Xon", &XON_XOFF, &rounds(&[[2, 0, 0x13, 0], [2, 0, 0x11, 0]], events));
+    compare("mixed traffic", &[], &mixed(&mut Random::new(1), events));
 }
