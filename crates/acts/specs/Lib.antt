@@ -4,3 +4,6 @@ pub mod Acts
 pub mod Step
 pub mod Laws
 pub mod Settled
+pub mod Pause
+pub mod Turns
+pub mod Rest

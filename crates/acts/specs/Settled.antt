@@ -2,9 +2,10 @@
 -- where its condition holds, so that an act that does nothing leaves the whole record as it is.
 use Prim.Native.Nat.{ℕ}
 use mathlib.Core.Path.{_≡_, refl}
-use mathlib.Core.Bool.{Bool, true, false, _&&_}
-use Rattle.queue.specs.declared.Queue.{Queue}
+use mathlib.Core.Bool.{true}
+use Rattle.bits.specs.Conditions.{and-true}
 use Rattle.queue.specs.Queue.{staysAs, movedBy, afterOf}
+use Rattle.queue.specs.Laws.{stays-after}
 use Rattle.event.specs.declared.events.Touch.{Touch}
 use Rattle.event.specs.declared.events.Touch.the-variants as touch
 use Rattle.registers.specs.declared.register.Register.the-variants as register
@@ -59,10 +60,6 @@ unfolding stepAt
 touch-settles ch t = act-settles ch (actOf ch t)
 
 -- ---- and an act that does nothing at a settled channel leaves it as it is
-stays : (q : Queue) → afterOf q (staysAs q) ≡ q
-unfolding afterOf staysAs
-stays q = refl
-
 pub settled-stays : (ch : Channel) (act : Act) → Settled ch → Idle ch act → afterStep ch (settledOf ch act) ≡ ch
 unfolding afterStep settledOf momentAt momentOf staysAs withLatch withFlags withFlow
 settled-stays ch act settled idle =
@@ -74,8 +71,8 @@ settled-stays ch act settled idle =
       settled .latch-ruled,
       settled .flow-ruled,
       flags-stay (ch .state .flags) (momentAt ch) (settled .thr-true),
-      stays (ch .rx),
-      stays (ch .tx),
+      stays-after (ch .rx),
+      stays-after (ch .tx),
     )
 
 -- settling twice is settling once
@@ -91,10 +88,6 @@ look-left ch settled =
     (record { none-set = closed-sets-none (ch .settings) noSetting refl; lines-left = refl; rx-left = refl; tx-left = refl })
 
 -- ---- nor does a closed address: it "reads 0, writes nothing"
-and-true : (x : Bool) → x && true ≡ x
-and-true true = refl
-and-true false = refl
-
 pub closed-read-left : (ch : Channel) (address : ℕ) → registerAt (ch .settings) address ≡ register.Closed → Settled ch
     → touchedBy ch (touch.Read address) ≡ ch
 unfolding stepAt actOf readAct actWith settingBy noSetting receiveChange transmitChange movedBy lineRead modemRead shownAt flagsCleared withLine withModem withFlags

@@ -3,8 +3,9 @@
 use Prim.Native.Nat.{ℕ, _<_}
 use native.Mathlib.Omega.{arith}
 use mathlib.Core.Path.{_≡_, refl, ap, _∙_}
-use mathlib.Core.Bool.{Bool, true, false, _&&_}
+use mathlib.Core.Bool.{Bool, true, false}
 use Rattle.bits.specs.Choice.{pick, pick-by, apart}
+use Rattle.bits.specs.Conditions.{both-hold}
 use Rattle.bits.specs.Bits.{bitAt}
 use Rattle.queue.specs.Queue.{emptyQueue, clearsAll, staysAs, movedBy, afterOf}
 use Rattle.queue.specs.Laws.{well-formed-empty, well-formed-after, empty-below}
@@ -41,10 +42,6 @@ use Rattle.device.specs.Reset.{resetLcr, newByte, settingsReset, linesRe
 use Rattle.device.specs.Device.{WellFormed, channelAt, withChannel, sideNumbered, touchedAt, givenFor, namedStep, stepOf, answeredOf}
 
 -- ---- a reset through a channel is the act only: what the event touches there is what a reset makes anew
-both-hold : (x y : Bool) → x && y ≡ true → x ≡ true
-both-hold true y h = refl
-both-hold false y h = h
-
 -- a write to IOControl
 io-control-forgotten : (ch : Channel) (address byte : ℕ) → registerAt (ch .settings) address ≡ register.IoControl
     → (resetOf (touchedBy ch (touch.Write address byte)) ≡ resetOf ch) × (stepAt ch (touch.Write address byte) .reply ≡ 0)
@@ -56,7 +53,7 @@ pub reset-forgets : (ch : Channel) (t : Touch) → resetsBy (ch .settings) t ≡
 unfolding resetsBy resetsDevice
 reset-forgets ch (touch.Write address byte) h =
     io-control-forgotten ch address byte
-    (same-is (registerAt (ch .settings) address) register.IoControl (both-hold _ (bitAt byte 3) h))
+    (same-is (registerAt (ch .settings) address) register.IoControl (both-hold _ (bitAt byte 3) h .0))
 reset-forgets ch (touch.Read address) h = absurd (apart h)
 reset-forgets ch (touch.Arrival byte mark) h = absurd (apart h)
 reset-forgets ch touch.Slot h = absurd (apart h)

@@ -1,4 +1,5 @@
--- Laws: the byte that waits stays within its bounds, and settling twice is settling once.
+-- Laws: the byte that waits stays within its bounds, a byte is put to wait exactly where the second latch turns, and settling twice
+-- is settling once.
 use Prim.Native.Nat.{ℕ, _<_}
 use native.Mathlib.Omega.{arith}
 use mathlib.Core.Path.{_≡_, refl, sym, ap, _∙_}
@@ -43,8 +44,18 @@ module _ (f : Flow) (ok : f .byte < 256) where
       (λ _. pick-by (λ (n : ℕ). n < 256) (latchDriven s received (f .latch)) (λ _. h .xon-in) (λ _. h .xoff-in)) (λ _. ok))
       (λ _. ok)
 
--- ---- a latch that the rule has made does not turn again
-turned-latch : (f : Flow) (pair : Pair) (latch : Bool) → flowTurned f pair latch .latch ≡ latch
+-- ---- where the latch turns, the byte of the pair waits that it calls for; where it doesn't, nothing is put
+module _ (f : Flow) (pair : Pair) (latch : Bool) where
+  pub turned-puts : differs (f .latch) latch ≡ true
+      → (flowTurned f pair latch .waits ≡ true) × (flowTurned f pair latch .byte ≡ pick latch (pair .xon) (pair .xoff))
+  unfolding flowTurned
+  turned-puts turns = rw turns (refl, refl)
+
+  pub unturned-stays : differs (f .latch) latch ≡ false → flowTurned f pair latch ≡ f
+  unfolding flowTurned
+  unturned-stays stays = rw stays
+
+pub turned-latch : (f : Flow) (pair : Pair) (latch : Bool) → flowTurned f pair latch .latch ≡ latch
 unfolding flowTurned differs
 turned-latch f pair latch = go (f .latch) latch refl
   where
@@ -54,6 +65,7 @@ turned-latch f pair latch = go (f .latch) latch refl
     go false true e = rw e
     go false false e = rw e
 
+-- ---- a latch that the rule has made does not turn again
 same-stays : (f : Flow) (pair : Pair) → flowTurned f pair (f .latch) ≡ f
 unfolding flowTurned differs
 same-stays f pair = go (f .latch) refl

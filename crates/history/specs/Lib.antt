@@ -15,4 +15,5 @@ pub mod Lent
 pub mod Rules
 pub mod Records
 pub mod Looks
+pub mod Pause
 pub mod Table

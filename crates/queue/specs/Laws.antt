@@ -39,6 +39,11 @@ pub items-cleared : (q : Queue) (room : ℕ) → items (changed q Clear room) �
 unfolding items itemsFrom movedBy clearsAll afterOf
 items-cleared q room = refl
 
+-- ---- a queue to which nothing happens is the same one
+pub stays-after : (q : Queue) → afterOf q (staysAs q) ≡ q
+unfolding afterOf staysAs
+stays-after q = refl
+
 -- ---- an added character is the last, and the others stay
 module _ (bytes marks : List ℕ) (c : Character) (bytes-64 : length bytes ≡ 64) (marks-64 : length marks ≡ 64) where
   from-set : (s n at : ℕ) → at ≡ (s + n) % 64 → n < 64

@@ -12,7 +12,9 @@ use Rattle.registers.specs.declared.register.Register.{Register}
 use Rattle.registers.specs.declared.register.Register.the-variants as register
 use Rattle.registers.specs.declared.settings.Settings.{Settings}
 use Rattle.registers.specs.Windows.{same}
+use Rattle.registers.specs.Writes.{noSetting}
 use Rattle.registers.specs.Bounds.{SettingIn, SettingsIn}
+use Rattle.registers.specs.Pairs.{choosesPair}
 use Rattle.registers.specs.Laws.{none-in, efcr-holds}
 use Rattle.receiver.specs.declared.arrival.Gate.{Gate}
 use Rattle.receiver.specs.declared.arrival.Gate.the-variants as gate
@@ -21,7 +23,7 @@ use Rattle.receiver.specs.declared.arrival.Mode.{Mode}
 use Rattle.receiver.specs.declared.arrival.Mode.the-variants as mode
 use Rattle.receiver.specs.declared.line.Line.{Line}
 use Rattle.receiver.specs.declared.line.Status.{Status}
-use Rattle.receiver.specs.Arrivals.{modeOf, arrivedByte, equalsXoff2, receiverSet, heardPlain, asData, heardNinth, heardAddress, heardIn, heardOf}
+use Rattle.receiver.specs.Arrivals.{modeOf, arrivedByte, equalsXoff2, unlessOff, receiverSet, gatePlain, heardPlain, asData, heardNinth, heardAddress, heardIn, heardOf}
 use Rattle.receiver.specs.Line.{lineArrived, lineRead, lineCleared, lineQuieter, fateNumber, lsrOf}
 
 -- ---- the quiet count
@@ -71,6 +73,20 @@ module _ (s : Settings) (ok : SettingsIn s) where
   unfolding heardOf
   heard-in byte mark = heard-in-mode (modeOf s) byte mark
 
+-- and no other register
+keeps-efr-in-mode : (m : Mode) (s : Settings) (byte mark : ℕ) → same (heardIn m s byte mark .setting .register) register.Efr ≡ false
+unfolding heardPlain asData heardNinth heardAddress receiverSet noSetting
+keeps-efr-in-mode mode.Plain s byte mark = refl
+keeps-efr-in-mode mode.Ninth s byte mark =
+    pick-by (λ (h : Heard). same (h .setting .register) register.Efr ≡ false) (not (bitAt mark 0)) (λ _. refl) (λ _. refl)
+keeps-efr-in-mode mode.Address s byte mark =
+    pick-by (λ (h : Heard). same (h .setting .register) register.Efr ≡ false) (not (bitAt mark 0)) (λ _. refl)
+    (λ _. pick-by (λ (h : Heard). same (h .setting .register) register.Efr ≡ false) (equalsXoff2 s byte mark) (λ _. refl) (λ _. refl))
+
+pub heard-keeps-efr : (s : Settings) (byte mark : ℕ) → same (heardOf s byte mark .setting .register) register.Efr ≡ false
+unfolding heardOf
+heard-keeps-efr s byte mark = keeps-efr-in-mode (modeOf s) s byte mark
+
 -- ---- a byte that is queued, a fate and LSR
 pub arrived-fits : (s : Settings) (byte mark : ℕ) → byte < 256 → arrivedByte s byte mark < 256
 unfolding arrivedByte
@@ -85,6 +101,31 @@ fate-in gate.Off kept = omega arith
 fate-in gate.Elsewhere kept = omega arith
 fate-in gate.Xoff kept = omega arith
 fate-in gate.Xon kept = omega arith
+
+-- ---- where EFR 1:0 compare nothing, the gate is as document 01 alone has it, and no arrival is taken as Xoff or Xon
+module _ (s : Settings) (none : choosesPair (s .efr) 0 ≡ false) where
+  pub gate-before : (byte mark : ℕ) → gatePlain s byte mark ≡ unlessOff s
+  unfolding gatePlain unlessOff
+  gate-before byte mark = rw none
+
+  abbrev TakenNot : Heard → Type 0
+  TakenNot h = fateNumber (h .gate) true ≤ 3
+
+  data-taken-not : TakenNot (asData s)
+  unfolding asData unlessOff fateNumber
+  data-taken-not = pick-by (λ (g : Gate). fateNumber g true ≤ 3) (bitAt (s .efcr) 1) (λ _. omega arith) (λ _. omega arith)
+
+  taken-not-in : (m : Mode) (byte mark : ℕ) → TakenNot (heardIn m s byte mark)
+  unfolding heardPlain heardNinth heardAddress asData fateNumber
+  taken-not-in mode.Plain byte mark = rw (gate-before byte mark) data-taken-not
+  taken-not-in mode.Ninth byte mark = pick-by TakenNot (not (bitAt mark 0)) (λ _. data-taken-not) (λ _. omega arith)
+  taken-not-in mode.Address byte mark =
+      pick-by TakenNot (not (bitAt mark 0)) (λ _. data-taken-not)
+      (λ _. pick-by TakenNot (equalsXoff2 s byte mark) (λ _. omega arith) (λ _. omega arith))
+
+  pub none-taken : (byte mark : ℕ) → TakenNot (heardOf s byte mark)
+  unfolding heardOf
+  none-taken byte mark = taken-not-in (modeOf s) byte mark
 
 lsr-sum-in : (a b m c d e : ℕ) → a ≤ 1 → b ≤ 1 → m < 8 → c ≤ 1 → d ≤ 1 → e ≤ 1 → a + b * 2 + m * 4 + c * 32 + d * 64 + e * 128 < 256
 lsr-sum-in a b m c d e ha hb hm hc hd he = omega arith
