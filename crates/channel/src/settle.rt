@@ -72,18 +72,17 @@ impl Channel {
         let settings = self.settings.with(setting);
         let rx = act.rx;
         let tx = act.tx;
-        let latch = latch_after(settings, Characters(rx.count), act.state.latch);
+        let received = Characters(rx.count);
+        let latch = latch_after(settings, received, act.state.latch);
+        let flow = act.state.flow;
+        let paused = flow.settled(self.settings, setting, settings, received);
         let before = self.moment();
         let now = moment(settings, latch, act.state.shift, spaces(tx.count));
         let flagged = act.state.with_flags(act.state.flags.settled(before, now));
-        let received = Characters(rx.count);
-        let flow = act.state
-            .flow
-            .settled(self.settings, setting, settings, received);
         Step {
             sets: !register.is(Register::Closed),
             settings: settings,
-            state: flagged.with_latch(latch).with_flow(flow),
+            state: flagged.with_latch(latch).with_flow(paused),
             rx: rx,
             tx: tx,
             reply: act.reply,
