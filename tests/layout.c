@@ -1,7 +1,7 @@
 /* The header's record against the proved one: sizes, alignment and places when it is compiled, and when it is run that
  * each field is where the events put its value. It prints nothing and ends with 0.
  *
- *     cc -std=c11 -Iinclude examples/layout.c target/staticlib/libsc16is752.a -o layout
+ *     cc -std=c11 -Iinclude tests/layout.c target/staticlib/libsc16is752.a -o layout
  */
 #undef NDEBUG
 #include "sc16is752.h"

@@ -85,7 +85,9 @@ acted-rests ch (touch.Write address byte) rests none = rw rests (written (same (
     written true false = refl
     written false sends = refl
 acted-rests ch (touch.Read address) rests none = rests
-acted-rests ch (touch.Arrival byte mark) rests none = rw (rests, stops-not (ch .settings) none (heardOf (ch .settings) byte mark .gate) (none-taken (ch .settings) (none-chosen (ch .settings) none .0) byte mark))
+acted-rests ch (touch.Arrival byte mark) rests none =
+    let untaken = none-taken (ch .settings) (none-chosen (ch .settings) none .0) byte mark in
+    rw (rests, stops-not (ch .settings) none (heardOf (ch .settings) byte mark .gate) untaken)
 acted-rests ch touch.Slot rests none = rw rests
 acted-rests ch (touch.Pins value) rests none = rests
 acted-rests ch touch.Quiet rests none = rests

@@ -1,5 +1,5 @@
--- Definitions: ".. the latch, the RTS flag, the THR flag", the second latch behind the first: what an act comes to with what settles after it, and the channel
--- afterwards.
+-- Definitions: ".. the latch, the RTS flag, the THR flag", the second latch behind the first: what an act comes to with what
+-- settles after it, and the channel afterwards.
 use Prim.Native.Nat.{_≤_}
 use mathlib.Core.Bool.{Bool, not}
 use Rattle.queue.specs.Queue.{MovedIn, afterOf}

@@ -276,6 +276,111 @@ impl Script {
         }
     }
 
+    /// Characters of the pairs among others, with what decides whether they are taken.
+    fn xoff(&mut self, channel: u64) {
+        let word = self.below(4);
+        let pairs = self.pairs(channel, 0xFF >> (3 - word));
+        let low = if self.random.once_in(4) { self.below(16) } else { self.one_of(&[1, 2, 5, 10]) };
+        let efr = self.one_of(&[0, 0x20, 0x20, 0x80]) | low;
+        self.enhanced(channel, 2, efr | 0x10, word);
+        let ier = self.one_of(&[0x20, 0x20, 0x21, 0x01, 0xFF]);
+        self.write(channel, 1, ier);
+        let mcr = self.one_of(&[0, 0x20]);
+        self.write(channel, 4, mcr);
+        let fcr = self.one_of(&[0x00, 0x01, 0x03]);
+        self.write(channel, 2, fcr);
+        if self.random.once_in(2) {
+            self.enhanced(channel, 2, efr, word);
+        }
+        self.write(channel, 15, 0);
+        for _ in 0..self.below(80) {
+            // Now and then a character that the receiver has another rule for.
+            let efcr = if self.random.once_in(6) { self.one_of(&[1, 2, 3]) } else { 0 };
+            if efcr != 0 {
+                self.write(channel, 15, efcr);
+            }
+            let byte = match self.below(8) {
+                0..=4 => pairs[self.below(4) as usize],
+                5 => pairs[self.below(4) as usize] ^ 1 << self.below(8),
+                _ => self.below(256),
+            };
+            let mark = if self.random.once_in(5) { self.below(8) } else { 0 };
+            self.push([ARRIVAL, channel, byte, mark]);
+            if efcr != 0 {
+                self.write(channel, 15, 0);
+            }
+            match self.below(12) {
+                0 | 1 => self.read(channel, 2),
+                2 => self.read(channel, 5),
+                3 | 4 => self.push([SLOT, channel, 0, 0]),
+                5 | 6 => {
+                    let byte = self.below(256);
+                    self.write(channel, 0, byte);
+                    self.push([SLOT, channel, 0, 0]);
+                }
+                7 => {
+                    for _ in 0..4 {
+                        self.push([QUIET, channel, 0, 0]);
+                    }
+                }
+                8 => self.read(channel, 0),
+                9 => self.glance(channel),
+                10 => self.rewrite(channel, efr, word),
+                _ => {}
+            }
+        }
+    }
+
+    /// The queue filled and read, so that the second latch turns, with what becomes of the byte that waits.
+    fn sent(&mut self, channel: u64) {
+        let word = if self.random.once_in(3) { self.below(4) } else { 3 };
+        let pairs = self.pairs(channel, 0xFF);
+        let low = if self.random.once_in(4) { self.below(16) } else { self.one_of(&[4, 8, 5, 10]) };
+        let efr = self.one_of(&[0, 0, 0x40, 0x80]) | low;
+        self.enhanced(channel, 2, efr | 0x10, word);
+        self.write(channel, 4, 4);
+        // Low levels, so that the latch turns often.
+        let tcr = self.one_of(&[0x00, 0x01, 0x02, 0x10, 0x11, 0x12, 0x13, 0x21]);
+        self.write(channel, 6, tcr);
+        self.write(channel, 15, 0);
+        let fcr = self.one_of(&[0x01, 0x01, 0x01, 0x41, 0x00]);
+        self.write(channel, 2, fcr);
+        if self.random.once_in(2) {
+            self.enhanced(channel, 2, efr, word);
+        }
+        for _ in 0..self.below(30) {
+            let (moved, up) = (self.below(8), self.random.once_in(2));
+            for _ in 0..moved {
+                if up {
+                    let byte = self.below(256);
+                    self.push([ARRIVAL, channel, byte, 1]);
+                } else {
+                    self.read(channel, 0);
+                }
+            }
+            for _ in 0..self.below(4) {
+                match self.below(9) {
+                    0 => {
+                        let byte = self.below(256);
+                        self.write(channel, 0, byte);
+                    }
+                    1 => self.read(channel, 5),
+                    2 => self.glance(channel),
+                    3 | 4 => self.rewrite(channel, efr, word),
+                    5 => {
+                        let fcr = self.one_of(&[0x01, 0x03, 0x05, 0x41, 0x00]);
+                        self.write(channel, 2, fcr);
+                    }
+                    6 => {
+                        let byte = pairs[self.below(4) as usize];
+                        self.push([ARRIVAL, channel, byte, 0]);
+                    }
+                    _ => self.push([SLOT, channel, 0, 0]),
+                }
+            }
+        }
+    }
+
     fn stretch(&mut self, mood: Mood, channel: u64) {
         match mood {
             Mood::Fiddle => {
@@ -701,107 +806,8 @@ impl Script {
                 }
             }
             Mood::Audit => self.audit(channel),
-            Mood::Xoff => {
-                let word = self.below(4);
-                let pairs = self.pairs(channel, 0xFF >> (3 - word));
-                let low = if self.random.once_in(4) { self.below(16) } else { self.one_of(&[1, 2, 5, 10]) };
-                let efr = self.one_of(&[0, 0x20, 0x20, 0x80]) | low;
-                self.enhanced(channel, 2, efr | 0x10, word);
-                let ier = self.one_of(&[0x20, 0x20, 0x21, 0x01, 0xFF]);
-                self.write(channel, 1, ier);
-                let mcr = self.one_of(&[0, 0x20]);
-                self.write(channel, 4, mcr);
-                let fcr = self.one_of(&[0x00, 0x01, 0x03]);
-                self.write(channel, 2, fcr);
-                if self.random.once_in(2) {
-                    self.enhanced(channel, 2, efr, word);
-                }
-                self.write(channel, 15, 0);
-                for _ in 0..self.below(80) {
-                    // Now and then a character that the receiver has another rule for.
-                    let efcr = if self.random.once_in(6) { self.one_of(&[1, 2, 3]) } else { 0 };
-                    if efcr != 0 {
-                        self.write(channel, 15, efcr);
-                    }
-                    let byte = match self.below(8) {
-                        0..=4 => pairs[self.below(4) as usize],
-                        5 => pairs[self.below(4) as usize] ^ 1 << self.below(8),
-                        _ => self.below(256),
-                    };
-                    let mark = if self.random.once_in(5) { self.below(8) } else { 0 };
-                    self.push([ARRIVAL, channel, byte, mark]);
-                    if efcr != 0 {
-                        self.write(channel, 15, 0);
-                    }
-                    match self.below(12) {
-                        0 | 1 => self.read(channel, 2),
-                        2 => self.read(channel, 5),
-                        3 | 4 => self.push([SLOT, channel, 0, 0]),
-                        5 | 6 => {
-                            let byte = self.below(256);
-                            self.write(channel, 0, byte);
-                            self.push([SLOT, channel, 0, 0]);
-                        }
-                        7 => {
-                            for _ in 0..4 {
-                                self.push([QUIET, channel, 0, 0]);
-                            }
-                        }
-                        8 => self.read(channel, 0),
-                        9 => self.glance(channel),
-                        10 => self.rewrite(channel, efr, word),
-                        _ => {}
-                    }
-                }
-            }
-            Mood::Sent => {
-                let word = if self.random.once_in(3) { self.below(4) } else { 3 };
-                let pairs = self.pairs(channel, 0xFF);
-                let low = if self.random.once_in(4) { self.below(16) } else { self.one_of(&[4, 8, 5, 10]) };
-                let efr = self.one_of(&[0, 0, 0x40, 0x80]) | low;
-                self.enhanced(channel, 2, efr | 0x10, word);
-                self.write(channel, 4, 4);
-                // Low levels, so that the latch turns often.
-                let tcr = self.one_of(&[0x00, 0x01, 0x02, 0x10, 0x11, 0x12, 0x13, 0x21]);
-                self.write(channel, 6, tcr);
-                self.write(channel, 15, 0);
-                let fcr = self.one_of(&[0x01, 0x01, 0x01, 0x41, 0x00]);
-                self.write(channel, 2, fcr);
-                if self.random.once_in(2) {
-                    self.enhanced(channel, 2, efr, word);
-                }
-                for _ in 0..self.below(30) {
-                    let (moved, up) = (self.below(8), self.random.once_in(2));
-                    for _ in 0..moved {
-                        if up {
-                            let byte = self.below(256);
-                            self.push([ARRIVAL, channel, byte, 1]);
-                        } else {
-                            self.read(channel, 0);
-                        }
-                    }
-                    for _ in 0..self.below(4) {
-                        match self.below(9) {
-                            0 => {
-                                let byte = self.below(256);
-                                self.write(channel, 0, byte);
-                            }
-                            1 => self.read(channel, 5),
-                            2 => self.glance(channel),
-                            3 | 4 => self.rewrite(channel, efr, word),
-                            5 => {
-                                let fcr = self.one_of(&[0x01, 0x03, 0x05, 0x41, 0x00]);
-                                self.write(channel, 2, fcr);
-                            }
-                            6 => {
-                                let byte = pairs[self.below(4) as usize];
-                                self.push([ARRIVAL, channel, byte, 0]);
-                            }
-                            _ => self.push([SLOT, channel, 0, 0]),
-                        }
-                    }
-                }
-            }
+            Mood::Xoff => self.xoff(channel),
+            Mood::Sent => self.sent(channel),
         }
     }
 
