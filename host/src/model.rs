@@ -1,7 +1,8 @@
-//! A second model of document 01 and of document 02's request 01, written by hand from the documents alone.
+//! A second model of document 01 and of document 02's requests 01 and 02, written by hand from the documents
+//! alone.
 //!
-//! `Model` is the plain one. `Machine` with a `Wrong` has one rule wrong, with `Before` it is without the
-//! request; the plain model pays nothing for them.
+//! `Model` is the plain one. `Machine` with a `Wrong` has one rule wrong, with `Before` it is without Xon and
+//! Xoff; the plain model pays nothing for them.
 use crate::wrong::Wrong::{self, *};
 use crate::Answer;
 use std::collections::VecDeque;
@@ -34,7 +35,7 @@ impl Switch for Right {
     }
 }
 
-/// No rule is wrong, and the request isn't there yet.
+/// No rule is wrong, and Xon and Xoff aren't there yet.
 #[derive(Clone, Copy, Debug)]
 pub struct Before;
 
@@ -73,6 +74,9 @@ const ROOM: usize = 64;
 /// "quiet count 4"
 const QUIET: u8 = 4;
 
+const CD: u8 = 8;
+const RI: u8 = 4;
+const DSR: u8 = 2;
 const CTS: u8 = 1;
 
 /// "by FCR 7:6 one of 8, 16, 56, 60"
@@ -1043,10 +1047,16 @@ impl<S: Switch> Channel<S> {
 
     fn set_pins(&mut self, pins: u8) {
         let w = self.w;
-        // "MSR 3:0 are set by any change of the same pin"
-        let changed = w.pick(self.pins ^ pins, ChangeOff, self.pins & !pins);
-        let changed = w.pick(changed, ChangeRi, changed & !(pins & 4));
-        self.changes = w.pick(self.changes, ChangeLast, 0) | changed;
+        let (any, on, off) = (self.pins ^ pins, pins & !self.pins, self.pins & !pins);
+        // "MSR 3:0 are set by any change of the same pin", but MSR 2 "sets only when RI goes from asserted to not
+        // asserted. The other three stay."
+        let ri = w.pick(w.pick(w.pick(off, RingAny, any), RingOn, on), RingNever, 0) & RI;
+        let cd = w.pick(any, ChangeCd, off) & CD;
+        let dsr = w.pick(any, ChangeDsr, off) & DSR;
+        let cts = w.pick(any, ChangeCts, off) & CTS;
+        let changed = w.pick(cd | ri | dsr | cts, ChangeOff, off);
+        let before = w.pick(self.changes, RingClears, self.changes & !(on & RI));
+        self.changes = w.pick(before, ChangeLast, 0) | changed;
         // "CTS going off sets the CTS flag unless EFR 7 is set."
         let (from, to) = w.pick((self.pins, pins), CtsFlagOn, (pins, self.pins));
         if from & !to & CTS != 0 && (!bit(self.efr, 7) || w.has(CtsFlagWithAuto)) {
@@ -1380,7 +1390,7 @@ mod tests {
     }
 
     #[test]
-    fn before_the_request() {
+    fn before_xon_and_xoff() {
         let mut model = Machine::with(Before);
         for [kind, x, y, z] in [[0, 0, 3, 0xBF], [0, 0, 2, 0x0F], [0, 0, 2, 0x0A], [0, 0, 3, 3]] {
             model.step(kind, x, y, z);

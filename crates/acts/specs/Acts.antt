@@ -116,7 +116,7 @@ slotAct ch =
     (slotReply (ch .state .shift) (ch .settings))
 
 -- ---- 4 pins
--- "MSR 3:0 are set by any change of the same pin"; "CTS going off sets the CTS flag unless EFR 7 is set."
+-- MSR 3:0 mark what changes; "CTS going off sets the CTS flag unless EFR 7 is set."
 unfoldable pub pinsAct : Channel → ℕ → Act
 pinsAct ch value =
     actWith ch (touch.Pins value)

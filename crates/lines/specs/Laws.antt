@@ -1,10 +1,11 @@
 -- Laws: the pins and their changes stay four bits each; the shift register, what leaves it and MSR stay within their bounds; the
 -- latch rule applied twice is the latch rule.
 use Prim.Native.Nat.{ℕ, _<_, _≤_}
+use native.Mathlib.Nat.{lt-of-le-of-lt}
 use native.Mathlib.Omega.{arith}
 use mathlib.Core.Path.{_≡_, refl}
 use mathlib.Core.Bool.{Bool, true, false, not}
-use lib.Bits.{bitXor, or-lt, xor-lt}
+use lib.Bits.{bitXor, or-lt, xor-lt, and-le-l}
 use Rattle.bits.specs.Choice.{pick, pick-by}
 use Rattle.bits.specs.Bits.{bitAt}
 use Rattle.bits.specs.Laws.{cut-fits}
@@ -32,7 +33,7 @@ unfolding pinsChanged
 modem-changed m value v h =
     record {
       pins-in = v;
-      changes-in = or-lt 4 (m .changes) (bitXor (m .pins) value) (h .changes-in) (xor-lt 4 (m .pins) value (h .pins-in) v);
+      changes-in = or-lt 4 (m .changes) _ (h .changes-in) (lt-of-le-of-lt (and-le-l (bitXor (m .pins) value) _) (xor-lt 4 (m .pins) value (h .pins-in) v));
     }
 
 pub msr-fits : (m : Modem) → ModemIn m → msrOf m < 256

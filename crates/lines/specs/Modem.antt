@@ -1,7 +1,7 @@
 -- Definitions: "Pins", of "Interrupts". Pin values: CD 8, RI 4, DSR 2, CTS 1.
 use Prim.Native.Nat.{ℕ, _+_, _*_, _<_}
 use mathlib.Core.Bool.{Bool, not, _&&_}
-use lib.Bits.{bitOr, bitXor}
+use lib.Bits.{bitAnd, bitOr, bitXor}
 use Rattle.bits.specs.Choice.{pick}
 use Rattle.bits.specs.Bits.{bitAt}
 use Rattle.registers.specs.declared.register.Register.{Register}
@@ -22,9 +22,14 @@ ctsAsserted m = bitAt (m .pins) 0
 unfoldable pub ctsOff : Modem → Settings → ℕ → Bool
 ctsOff m s value = ctsAsserted m && not (bitAt value 0) && not (bitAt (s .efr) 7)
 
--- "MSR 3:0 are set by any change of the same pin": the bits where old and new value differ join those that were set
+-- "MSR 3:0 are set by any change of the same pin", MSR 2 "only when RI goes from asserted to not asserted": the bits where old
+-- and new value differ join those that were set, if they are of CD, DSR or CTS, or of a pin that was asserted
 unfoldable pub pinsChanged : Modem → ℕ → Modem
-pinsChanged m value = record { pins = value; changes = bitOr (m .changes) (bitXor (m .pins) value) }
+pinsChanged m value =
+    record {
+      pins = value;
+      changes = bitOr (m .changes) (bitAnd (bitXor (m .pins) value) (bitOr (8 + 2 + 1) (m .pins)));
+    }
 
 -- ".. and cleared by an MSR read"
 unfoldable pub modemRead : Modem → Register → Modem

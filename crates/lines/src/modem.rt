@@ -8,6 +8,9 @@ ghost use mathlib.Core.Path.{_≡_};
 ghost use Prim.Native.Nat.{_<_};
 ghost use Rattle.lines.specs.Modem.{ModemIn, ctsAsserted, ctsOff, pinsChanged, modemRead, msrOf};
 
+// CD, DSR and CTS, of which MSR marks a change either way; of RI it marks only that it goes off.
+const ANY_CHANGE: u8 = 0x0B;
+
 #[repr(C)]
 pub struct Modem {
     pub pins: u8,
@@ -35,7 +38,7 @@ impl Modem {
     {
         Modem {
             pins: value,
-            changes: self.changes | (self.pins ^ value),
+            changes: self.changes | ((self.pins ^ value) & (ANY_CHANGE | self.pins)),
         }
     }
 

@@ -6,7 +6,7 @@
 //!
 //! With --wrong each wrong change of the second model takes its place in turn, and those that no history
 //! tells from the chip are named. With --before EFR 3:0 stay clear in every history, and the chip is compared
-//! with the second model as document 01 alone has it.
+//! with the second model without Xon and Xoff.
 use host::model::{Before, Machine, Right, Switch};
 use host::{wrong, Answer, Chip, Event, Random};
 use std::collections::VecDeque;
