@@ -277,11 +277,11 @@ enum {
     SC16IS752_LSR_ERROR = 0x80
 };
 
-/* MSR. The low four are set by any change of the same pin, but RI's only when RI goes off, and cleared by a read. */
+/* MSR. The low four are set by any change of the same pin, RI's only by RI going off, and cleared by a read. */
 enum {
     SC16IS752_MSR_CTS_CHANGED = 0x01,
     SC16IS752_MSR_DSR_CHANGED = 0x02,
-    SC16IS752_MSR_RI_CHANGED = 0x04, /* from asserted to not */
+    SC16IS752_MSR_RI_CHANGED = 0x04,
     SC16IS752_MSR_CD_CHANGED = 0x08,
     SC16IS752_MSR_CTS = 0x10,
     SC16IS752_MSR_DSR = 0x20,

@@ -33,7 +33,9 @@ unfolding pinsChanged
 modem-changed m value v h =
     record {
       pins-in = v;
-      changes-in = or-lt 4 (m .changes) _ (h .changes-in) (lt-of-le-of-lt (and-le-l (bitXor (m .pins) value) _) (xor-lt 4 (m .pins) value (h .pins-in) v));
+      changes-in =
+          or-lt 4 (m .changes) _ (h .changes-in)
+          (lt-of-le-of-lt (and-le-l (bitXor (m .pins) value) _) (xor-lt 4 (m .pins) value (h .pins-in) v));
     }
 
 pub msr-fits : (m : Modem) → ModemIn m → msrOf m < 256
