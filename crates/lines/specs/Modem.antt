@@ -23,12 +23,12 @@ unfoldable pub ctsOff : Modem → Settings → ℕ → Bool
 ctsOff m s value = ctsAsserted m && not (bitAt value 0) && not (bitAt (s .efr) 7)
 
 -- "MSR 3:0 are set by any change of the same pin", MSR 2 "only when RI goes from asserted to not asserted": the bits where old
--- and new value differ join those that were set, if they are of CD, DSR or CTS, or of a pin that was asserted
+-- and new value differ join those that were set, of CD, DSR and CTS, and of an RI that was asserted
 unfoldable pub pinsChanged : Modem → ℕ → Modem
 pinsChanged m value =
     record {
       pins = value;
-      changes = bitOr (m .changes) (bitAnd (bitXor (m .pins) value) (bitOr (8 + 2 + 1) (m .pins)));
+      changes = bitOr (m .changes) (bitAnd (bitXor (m .pins) value) (bitOr (8 + 2 + 1) (bitAnd (m .pins) 4)));
     }
 
 -- ".. and cleared by an MSR read"

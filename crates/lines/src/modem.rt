@@ -8,8 +8,11 @@ ghost use mathlib.Core.Path.{_≡_};
 ghost use Prim.Native.Nat.{_<_};
 ghost use Rattle.lines.specs.Modem.{ModemIn, ctsAsserted, ctsOff, pinsChanged, modemRead, msrOf};
 
-// CD, DSR and CTS, of which MSR marks a change either way; of RI it marks only that it goes off.
+// CD, DSR and CTS, of which MSR marks a change either way.
 const ANY_CHANGE: u8 = 0x0B;
+
+// RI, of which it marks only that it goes off.
+const RI: u8 = 0x04;
 
 #[repr(C)]
 pub struct Modem {
@@ -38,7 +41,7 @@ impl Modem {
     {
         Modem {
             pins: value,
-            changes: self.changes | ((self.pins ^ value) & (ANY_CHANGE | self.pins)),
+            changes: self.changes | ((self.pins ^ value) & (ANY_CHANGE | (self.pins & RI))),
         }
     }
 
