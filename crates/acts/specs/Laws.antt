@@ -81,7 +81,7 @@ unfolding receive_change
 received_in s (touch.Write address byte) v = pick_by ChangeIn (clears s (register_at s address) byte 1) (λ _. tt) (λ _. tt)
 received_in s (touch.Read address) v = pick_by ChangeIn (same (register_at s address) register.RhrThr) (λ _. tt) (λ _. tt)
 received_in s (touch.Arrival byte mark) v =
-    pick_by ChangeIn (does_pass (heard_of s byte mark).gate) (λ _. record { byte_in_lem = arrived_fits s byte mark v.0; mark_in_lem = v.1 }) (λ _. tt)
+    pick_by ChangeIn (does_pass (heard_of s byte mark).gate) (λ _. record { byte_in = arrived_fits s byte mark v.0; mark_in = v.1 }) (λ _. tt)
 received_in s touch.Slot v = tt
 received_in s (touch.Pins value) v = tt
 received_in s touch.Quiet v = tt
@@ -90,7 +90,7 @@ received_in s touch.RtsLook v = tt
 sent_in : (s : Settings) (loading : Bool) (t : Touch) → TouchIn t → ChangeIn (transmit_change s loading t)
 unfolding transmit_change sent_by
 sent_in s loading (touch.Write address byte) v =
-    pick_by ChangeIn (same (register_at s address) register.RhrThr) (λ _. record { byte_in_lem = v.1; mark_in_lem = omega arith })
+    pick_by ChangeIn (same (register_at s address) register.RhrThr) (λ _. record { byte_in = v.1; mark_in = omega arith })
     (λ _. pick_by ChangeIn (clears s (register_at s address) byte 2) (λ _. tt) (λ _. tt))
 sent_in s loading (touch.Read address) v = tt
 sent_in s loading (touch.Arrival byte mark) v = tt
@@ -116,18 +116,18 @@ module _ (ch : Channel) (ok : WellFormed ch) where
   act_with_in t lines reply v l r =
       record {
         setting_in = setting_by_in ch.settings t v ok.settings_in;
-        lines_in_lem = l;
+        lines_in = l;
         rx_in = moved_in ch.rx (receive_change ch.settings t) (room_of ch.settings) ok.rx_in (room_in ch.settings) (received_in ch.settings t v);
         tx_in = moved_in ch.tx (sent_change ch t) transmit_room ok.tx_in (omega arith) (sent_in ch.settings (loads_oldest ch) t v);
         reply_in = r;
       }
 
   abbrev lined : (line : Line) → line.quiet ≤ 4 → LinesIn (with_line ch.state line)
-  lined = with_line_in ch.state ok.lines_in_lem
+  lined = with_line_in ch.state ok.lines_in
 
   loaded_fits : pick (loads_waiting ch) ch.state.flow.byte (oldest_of ch.tx).byte < 256
   loaded_fits =
-      pick_by (λ (n : ℕ). n < 256) (loads_waiting ch) (λ _. ok.lines_in_lem.flow_in)
+      pick_by (λ (n : ℕ). n < 256) (loads_waiting ch) (λ _. ok.lines_in.flow_in)
       (λ _. oldest_byte_below 256 ch.tx (omega arith) ok.sent_bytes_in)
 
   pub act_in : (t : Touch) → TouchIn t → ActIn (act_of ch t)
@@ -135,32 +135,32 @@ module _ (ch : Channel) (ok : WellFormed ch) where
   act_in (touch.Write address byte) v =
       let written = register_at ch.settings address in
       act_with_in (touch.Write address byte) _ 0 v
-      (with_flow_in _ (lined _ (quiet_cleared ch.state.line (clears ch.settings written byte 1) ok.lines_in_lem.quiet_in))
-      _ (written_byte_in ch.state.flow ok.lines_in_lem.flow_in written byte))
+      (with_flow_in _ (lined _ (quiet_cleared ch.state.line (clears ch.settings written byte 1) ok.lines_in.quiet_in))
+      _ (written_byte_in ch.state.flow ok.lines_in.flow_in written byte))
       (omega arith)
   act_in (touch.Read address) v =
       let read = register_at ch.settings address in
       act_with_in (touch.Read address) _ _ v
       (with_flags_in _
-      (with_modem_in _ (lined _ (quiet_read ch.state.line read ok.lines_in_lem.quiet_in)) _ (modem_read_lem ch.state.modem read ok.lines_in_lem.modem_in))
+      (with_modem_in _ (lined _ (quiet_read ch.state.line read ok.lines_in.quiet_in)) _ (modem_read_lem ch.state.modem read ok.lines_in.modem_in))
       _)
       (omega (arith, read_fits ch read (shown_at ch read) ok))
   act_in (touch.Arrival byte mark) v =
       act_with_in (touch.Arrival byte mark) _ _ v
       (with_flow_in _ (with_flags_in _ (lined _ (quiet_arrived ch.state.line _)) _)
-      _ (heard_byte_in ch.state.flow ok.lines_in_lem.flow_in ch.settings (heard_of ch.settings byte mark).gate))
+      _ (heard_byte_in ch.state.flow ok.lines_in.flow_in ch.settings (heard_of ch.settings byte mark).gate))
       (omega (arith, fate_in (heard_of ch.settings byte mark).gate (received ch (touch.Arrival byte mark)).kept))
   act_in touch.Slot v =
       act_with_in touch.Slot _ _ v
-      (with_flow_in _ (with_shift_in ch.state ok.lines_in_lem _ (shift_loaded_lem _ _ loaded_fits))
-      _ (sent_byte_in ch.state.flow ok.lines_in_lem.flow_in (loads_waiting ch)))
-      (slot_in ch.state.shift ch.settings ok.lines_in_lem.shift_in)
+      (with_flow_in _ (with_shift_in ch.state ok.lines_in _ (shift_loaded_lem _ _ loaded_fits))
+      _ (sent_byte_in ch.state.flow ok.lines_in.flow_in (loads_waiting ch)))
+      (slot_in ch.state.shift ch.settings ok.lines_in.shift_in)
   act_in (touch.Pins value) v =
       act_with_in (touch.Pins value) _ 0 v
-      (with_flags_in _ (with_modem_in ch.state ok.lines_in_lem _ (modem_changed_lem ch.state.modem value v ok.lines_in_lem.modem_in)) _) (omega arith)
+      (with_flags_in _ (with_modem_in ch.state ok.lines_in _ (modem_changed_lem ch.state.modem value v ok.lines_in.modem_in)) _) (omega arith)
   act_in touch.Quiet v =
-      act_with_in touch.Quiet _ 0 v (lined _ (quiet_quieter ch.state.line ok.lines_in_lem.quiet_in)) (omega arith)
-  act_in touch.RtsLook v = act_with_in touch.RtsLook ch.state _ v ok.lines_in_lem (omega (arith, flag_in (rts_asserted ch)))
+      act_with_in touch.Quiet _ 0 v (lined _ (quiet_quieter ch.state.line ok.lines_in.quiet_in)) (omega arith)
+  act_in touch.RtsLook v = act_with_in touch.RtsLook ch.state _ v ok.lines_in (omega (arith, flag_in (rts_asserted ch)))
 
   pub step_in : (t : Touch) → TouchIn t → StepIn (step_at ch t)
   unfolding step_at

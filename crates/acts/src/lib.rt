@@ -1,5 +1,7 @@
 // What an event does at the channel that it names, kind by kind, and the one step of a channel by value: the act of the event,
 // and what settles after it.
+#![tactic(auto)]
+
 mod kinds;
 
 ghost use Rattle.std.specs.Prelude.{◌≡◌};

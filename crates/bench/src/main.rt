@@ -1,4 +1,6 @@
 // Runs the events of standard input on a new device, and prints a line for each answer.
+#![tactic(auto)]
+
 ghost use Rattle.std.specs.Prelude.{◌≡◌, ◌≤◌, length, take};
 ghost use Rattle.run.specs.Cursor.{WellFormed, cursor_after};
 ghost use Rattle.bench.specs.Program.{Within};
@@ -9,13 +11,13 @@ use run::Cursor;
 // The bytes taken at most: one more than an input may have, so that too long an input is told from the longest.
 const TAKEN: usize = 65537;
 
-#[derive(Drop)]
+#[derive(Clone, Copy)]
 enum Input {
     Bytes(usize),
     Failed,
 }
 
-#[derive(Drop)]
+#[derive(Clone, Copy)]
 struct Turn {
     cursor: Cursor,
     written: bool,

@@ -1,5 +1,7 @@
 // Bytes by their bits, numbered as the data sheet's register tables number them: 0 is the lowest.
 // A place or a width past the byte is no fault: there is nothing there.
+#![tactic(auto)]
+
 ghost use Rattle.std.specs.Prelude.{◌≡◌, ◌-◌, ◌^◌, ◌<◌};
 ghost use Rattle.bits.specs.Choice.{pick};
 ghost use Rattle.bits.specs.Bits.{one_if, differs, bit_at, part_at, joined_at, replaced_at, cut_to};

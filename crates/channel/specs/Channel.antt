@@ -23,7 +23,7 @@ use Rattle.channel.specs.State.{LinesIn}
 -- what may be asked of a record: "its counts, places and stored values within their bounds"
 pub record WellFormed (ch : Channel) : Type 0 where
   pub settings_in : SettingsIn ch.settings
-  pub lines_in_lem : LinesIn ch.state
+  pub lines_in : LinesIn ch.state
   pub rx_in : queue.WellFormed ch.rx
   pub bytes_in : Below 256 ch.rx.bytes
   pub marks_in : Below 8 ch.rx.marks

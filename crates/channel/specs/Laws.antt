@@ -61,9 +61,9 @@ settled_in ch act ok h =
     let stored : SettingsIn (settings_by ch act) = settings_in ch.settings act.setting ok.settings_in h.setting_in in
     record {
       settings_in = stored;
-      lines_in_lem =
-          with_flow_in _ (with_latch_in _ (with_flags_in act.state h.lines_in_lem _) _) _
-          (settled_byte_in act.state.flow h.lines_in_lem.flow_in (settings_by ch act) (pair_at (settings_by ch act) 2) _ (pair_in (settings_by ch act) 2 stored));
+      lines_in =
+          with_flow_in _ (with_latch_in _ (with_flags_in act.state h.lines_in _) _) _
+          (settled_byte_in act.state.flow h.lines_in.flow_in (settings_by ch act) (pair_at (settings_by ch act) 2) _ (pair_in (settings_by ch act) 2 stored));
       rx_in = h.rx_in;
       tx_in = h.tx_in;
       reply_in = h.reply_in;
@@ -75,7 +75,7 @@ unfolding after_step
 well_formed_stepped ch step ok h =
     record {
       settings_in = h.settings_in;
-      lines_in_lem = h.lines_in_lem;
+      lines_in = h.lines_in;
       rx_in = queue_after ch.rx step.rx h.rx_in ok.rx_in;
       bytes_in = bytes_after ch.rx step.rx h.rx_in ok.bytes_in;
       marks_in = marks_after ch.rx step.rx h.rx_in ok.marks_in;
@@ -92,24 +92,24 @@ mark_shown_in ch ok = oldest_mark_below 8 ch.rx (omega arith) ok.marks_in
 pub read_fits : (ch : Channel) (r : Register) (shown : Interrupt) → WellFormed ch → read_of ch r shown < 256
 unfolding read_of spaces_of
 read_fits ch register.RhrThr shown ok = oldest_byte_below 256 ch.rx (omega arith) ok.bytes_in
-read_fits ch register.Ier shown ok = ok.settings_in.ier_in.byte_in_lem
+read_fits ch register.Ier shown ok = ok.settings_in.ier_in.byte_in
 read_fits ch register.IirFcr shown ok = iir_fits shown ch.settings
-read_fits ch register.Lcr shown ok = ok.settings_in.lcr_in.byte_in_lem
-read_fits ch register.Mcr shown ok = ok.settings_in.mcr_in.byte_in_lem
+read_fits ch register.Lcr shown ok = ok.settings_in.lcr_in.byte_in
+read_fits ch register.Mcr shown ok = ok.settings_in.mcr_in.byte_in
 read_fits ch register.Lsr shown ok = lsr_fits (status_of ch) (mark_shown_in ch ok)
-read_fits ch register.Msr shown ok = msr_fits ch.state.modem ok.lines_in_lem.modem_in
-read_fits ch register.Spr shown ok = ok.settings_in.spr_in.byte_in_lem
+read_fits ch register.Msr shown ok = msr_fits ch.state.modem ok.lines_in.modem_in
+read_fits ch register.Spr shown ok = ok.settings_in.spr_in.byte_in
 read_fits ch register.Txlvl shown ok = omega arith
 read_fits ch register.Rxlvl shown ok = omega (arith, ok.rx_in.count_in)
 read_fits ch register.IoControl shown ok = omega arith
-read_fits ch register.Efcr shown ok = ok.settings_in.efcr_in.byte_in_lem
-read_fits ch register.Tcr shown ok = ok.settings_in.tcr_in.byte_in_lem
-read_fits ch register.Tlr shown ok = ok.settings_in.tlr_in.byte_in_lem
-read_fits ch register.Dll shown ok = ok.settings_in.dll_in.byte_in_lem
-read_fits ch register.Dlh shown ok = ok.settings_in.dlh_in.byte_in_lem
-read_fits ch register.Efr shown ok = ok.settings_in.efr_in.byte_in_lem
-read_fits ch register.Xon1 shown ok = ok.settings_in.xon1_in.byte_in_lem
-read_fits ch register.Xon2 shown ok = ok.settings_in.xon2_in.byte_in_lem
-read_fits ch register.Xoff1 shown ok = ok.settings_in.xoff1_in.byte_in_lem
-read_fits ch register.Xoff2 shown ok = ok.settings_in.xoff2_in.byte_in_lem
+read_fits ch register.Efcr shown ok = ok.settings_in.efcr_in.byte_in
+read_fits ch register.Tcr shown ok = ok.settings_in.tcr_in.byte_in
+read_fits ch register.Tlr shown ok = ok.settings_in.tlr_in.byte_in
+read_fits ch register.Dll shown ok = ok.settings_in.dll_in.byte_in
+read_fits ch register.Dlh shown ok = ok.settings_in.dlh_in.byte_in
+read_fits ch register.Efr shown ok = ok.settings_in.efr_in.byte_in
+read_fits ch register.Xon1 shown ok = ok.settings_in.xon1_in.byte_in
+read_fits ch register.Xon2 shown ok = ok.settings_in.xon2_in.byte_in
+read_fits ch register.Xoff1 shown ok = ok.settings_in.xoff1_in.byte_in
+read_fits ch register.Xoff2 shown ok = ok.settings_in.xoff2_in.byte_in
 read_fits ch register.Closed shown ok = omega arith

@@ -25,14 +25,14 @@ use Rattle.channel.specs.Channel.{free_at}
 -- an act and a step within their bounds: a reply is a byte or 256
 pub record ActIn (act : Act) : Type 0 where
   pub setting_in : SettingIn act.setting
-  pub lines_in_lem : LinesIn act.state
+  pub lines_in : LinesIn act.state
   pub rx_in : MovedIn act.rx
   pub tx_in : MovedIn act.tx
   pub reply_in : act.reply ≤ 256
 
 pub record StepIn (step : Step) : Type 0 where
   pub settings_in : SettingsIn step.settings
-  pub lines_in_lem : LinesIn step.state
+  pub lines_in : LinesIn step.state
   pub rx_in : MovedIn step.rx
   pub tx_in : MovedIn step.tx
   pub reply_in : step.reply ≤ 256

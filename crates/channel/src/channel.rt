@@ -11,7 +11,7 @@ use receiver::Status;
 use registers::{Register, Settings};
 
 #[repr(C)]
-#[derive(Drop)]
+#[derive(Clone, Copy)]
 pub struct Channel {
     pub settings: Settings,
     pub state: State,

@@ -1,4 +1,6 @@
 // One serial channel: its stored registers, its lines and its two queues, what is seen of it, and what settles after an act.
+#![tactic(auto)]
+
 mod channel;
 mod settle;
 mod state;

@@ -12,7 +12,7 @@ use queue::Moved;
 use registers::{Register, Setting, Settings};
 
 // The register that is set, the lines and what becomes of each queue; the reply, and whether the device is reset.
-#[derive(Drop)]
+#[derive(Clone, Copy)]
 pub struct Act {
     pub setting: Setting,
     pub state: State,
@@ -24,7 +24,7 @@ pub struct Act {
 
 // All that a channel is after an event but for the places of its queues, and whether a stored register was set; the reply,
 // and whether the device is reset.
-#[derive(Drop)]
+#[derive(Clone, Copy)]
 pub struct Step {
     pub sets: bool,
     pub settings: Settings,

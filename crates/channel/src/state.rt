@@ -8,7 +8,7 @@ use lines::{Modem, Shift};
 use receiver::Line;
 
 #[repr(C)]
-#[derive(Drop)]
+#[derive(Clone, Copy)]
 pub struct State {
     pub line: Line,
     pub shift: Shift,

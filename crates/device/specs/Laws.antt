@@ -138,14 +138,14 @@ blank_in =
 lines_reset_in : (pins : ℕ) → pins < 16 → LinesIn (lines_reset pins)
 unfolding lines_reset
 lines_reset_in pins h =
-    record { quiet_in = omega arith; shift_in = omega arith; modem_in = record { pins_in_lem = h; changes_in = omega arith }; flow_in = omega arith }
+    record { quiet_in = omega arith; shift_in = omega arith; modem_in = record { pins_in = h; changes_in = omega arith }; flow_in = omega arith }
 
 well_formed_reset : (ch : Channel) → channel.WellFormed ch → channel.WellFormed (reset_of ch)
 unfolding reset_of clears_all after_of
 well_formed_reset ch ok =
     record {
       settings_in = reset_in ch.settings ok.settings_in;
-      lines_in_lem = lines_reset_in ch.state.modem.pins ok.lines_in_lem.modem_in.pins_in_lem;
+      lines_in = lines_reset_in ch.state.modem.pins ok.lines_in.modem_in.pins_in;
       rx_in = well_formed_after ch.rx (clears_all ch.rx) ok.rx_in ok.rx_in.start_in (omega arith);
       bytes_in = ok.bytes_in;
       marks_in = ok.marks_in;
@@ -159,7 +159,7 @@ unfolding blank_channel empty_queue
 well_formed_blank =
     record {
       settings_in = blank_in;
-      lines_in_lem = lines_reset_in new_byte (omega arith);
+      lines_in = lines_reset_in new_byte (omega arith);
       rx_in = well_formed_empty;
       bytes_in = empty_below 256 (omega arith);
       marks_in = empty_below 8 (omega arith);

@@ -12,27 +12,27 @@ use channel::Channel;
 use event::{Event, Made, Refusal, Touch, event_of, refused_answer};
 
 #[repr(C)]
-#[derive(Drop)]
+#[derive(Clone, Copy)]
 pub struct Device {
     pub a: Channel,
     pub b: Channel,
 }
 
 // A device after an event in range, and the reply.
-#[derive(Drop)]
+#[derive(Clone, Copy)]
 pub struct Stepped {
     pub device: Device,
     pub reply: u16,
 }
 
 // What an event is answered with.
-#[derive(Drop)]
+#[derive(Clone, Copy)]
 pub enum Answer {
     Reply(u16),
     Refused(Refusal),
 }
 
-#[derive(Drop)]
+#[derive(Clone, Copy)]
 pub struct Outcome {
     pub device: Device,
     pub answer: Answer,

@@ -2,7 +2,7 @@
 ghost use Rattle.std.specs.Prelude.{◌≡◌};
 ghost use Rattle.device.specs.Device.{side_numbered};
 
-#[derive(Drop)]
+#[derive(Clone, Copy)]
 pub enum Side {
     A,
     B,

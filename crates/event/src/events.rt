@@ -5,7 +5,7 @@ ghost use Rattle.event.specs.Events.{event_at, on_channel, event_of, judged_of, 
 use crate::refusal::Refusal;
 
 // What happens at the channel that an event names.
-#[derive(Drop)]
+#[derive(Clone, Copy)]
 pub enum Touch {
     Write { address: u8, byte: u8 },
     Read { address: u8 },
@@ -17,7 +17,7 @@ pub enum Touch {
 }
 
 // An event names a channel and says what happens there, or is one of the whole device.
-#[derive(Drop)]
+#[derive(Clone, Copy)]
 pub enum Event {
     At { channel: u8, touch: Touch },
     Reset,
@@ -25,7 +25,7 @@ pub enum Event {
 }
 
 // What numbers come to: an event with its values in range, or a refusal.
-#[derive(Drop)]
+#[derive(Clone, Copy)]
 pub enum Made {
     Event(Event),
     Refused(Refusal),

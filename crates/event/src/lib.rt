@@ -1,4 +1,6 @@
 // Events, as the bench knows them, made from plain numbers, and why one is refused.
+#![tactic(auto)]
+
 mod events;
 mod refusal;
 

@@ -5,7 +5,7 @@ ghost use Rattle.event.specs.Refusals.{refusal_number, refused_answer};
 // What a refusal's number is added to where an answer is one number.
 const REFUSED: u32 = 512;
 
-#[derive(Drop)]
+#[derive(Clone, Copy)]
 pub enum Refusal {
     Number,
     Short,

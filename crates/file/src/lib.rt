@@ -1,4 +1,6 @@
 // The event file: its numbers, and the event at a place of it.
+#![tactic(auto)]
+
 mod number;
 mod reading;
 

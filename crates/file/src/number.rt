@@ -4,7 +4,7 @@ ghost use Rattle.file.specs.Numbers.{number_at, operand_at};
 
 use event::Refusal;
 
-#[derive(Drop)]
+#[derive(Clone, Copy)]
 pub enum Number {
     Value { value: u16, next: usize },
     Broken(Refusal),

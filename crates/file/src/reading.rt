@@ -12,7 +12,7 @@ const OPERANDS: [u8; 9] = [3, 2, 3, 1, 2, 1, 0, 0, 1];
 
 // What stands at a place: an event or a refused one, each with the place after it; a refusal that ends the run; or
 // nothing more.
-#[derive(Drop)]
+#[derive(Clone, Copy)]
 pub enum Reading {
     Event { event: Event, next: usize },
     Refused { refusal: Refusal, next: usize },

@@ -13,7 +13,7 @@ use registers::{Pair, Register, Setting, Settings, chooses_pair};
 // Whether an Xoff has stopped loading, which is the Xoff flag too; the second latch, on or off; and the byte that waits, 0
 // where none does.
 #[repr(C)]
-#[derive(Drop)]
+#[derive(Clone, Copy)]
 pub struct Flow {
     pub stopped: bool,
     pub latch: bool,

@@ -50,12 +50,12 @@ unfolding one_if
 flag_set true = refl
 flag_set false = refl
 
-module _ (l : Status) (mark_in_lem : l.mark < 8) where
+module _ (l : Status) (mark_in : l.mark < 8) where
   parts : ((lsr_of l / 4 % 8 ≡ l.mark) × (lsr_of l / 1 % 2 ≡ one_if l.ready) × (lsr_of l / 128 % 2 ≡ one_if l.error))
   unfolding lsr_of
   parts =
       lsr_parts (one_if l.ready) (one_if l.overrun) l.mark (one_if l.sent) (one_if l.idle) (one_if l.error)
-      (flag_in l.ready) (flag_in l.overrun) mark_in_lem (flag_in l.sent) (flag_in l.idle) (flag_in l.error)
+      (flag_in l.ready) (flag_in l.overrun) mark_in (flag_in l.sent) (flag_in l.idle) (flag_in l.error)
 
   pub lsr_marks : part_at (lsr_of l) 2 3 ≡ l.mark
   unfolding part_at

@@ -1,1 +1,3 @@
 // Theorems over every history. They stand in specs/; there is no code here.
+#![tactic(auto)]
+

@@ -5,7 +5,7 @@ ghost use Rattle.interrupts.specs.Flags.{flags_cleared, flags_arrived, flags_pin
 use crate::interrupt::Interrupt;
 
 #[repr(C)]
-#[derive(Drop)]
+#[derive(Clone, Copy)]
 pub struct Flags {
     pub special: bool,
     pub cts: bool,
@@ -14,7 +14,7 @@ pub struct Flags {
 }
 
 // RTS and the THR condition at one moment, to be compared with another.
-#[derive(Drop)]
+#[derive(Clone, Copy)]
 pub struct Moment {
     pub rts: bool,
     pub thr: bool,

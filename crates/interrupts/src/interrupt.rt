@@ -10,7 +10,7 @@ use lines::Modem;
 use receiver::Line;
 use registers::Settings;
 
-#[derive(Drop)]
+#[derive(Clone, Copy)]
 pub enum Interrupt {
     LineStatus,
     Timeout,

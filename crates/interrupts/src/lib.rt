@@ -1,4 +1,6 @@
 // The flags that interrupts are made from, the interrupts in rank order, and IIR.
+#![tactic(auto)]
+
 mod flags;
 mod interrupt;
 

@@ -1,4 +1,6 @@
 // The device that a caller keeps and lends to each event in turn.
+#![tactic(auto)]
+
 mod thin;
 mod way;
 

@@ -10,7 +10,7 @@ use device::{Answer, irq};
 use event::{Event, Made, Touch, event_of};
 
 // What is given for an event: whether the device is to be reset, and the answer's number.
-#[derive(Drop)]
+#[derive(Clone, Copy)]
 pub struct Gave {
     pub resets: bool,
     pub number: u32,
@@ -18,7 +18,7 @@ pub struct Gave {
 
 // Whether an event is neither channel's, or channel A's, and what happens there; of one that is neither's whether it looks
 // at the interrupts, and what is given for it otherwise.
-#[derive(Drop)]
+#[derive(Clone, Copy)]
 pub struct Way {
     pub aside: bool,
     pub a: bool,

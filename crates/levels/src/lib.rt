@@ -1,4 +1,6 @@
 // What the stored registers say of the queues: their room, what clears and loads them, and the trigger levels.
+#![tactic(auto)]
+
 mod queues;
 mod trigger;
 

@@ -6,11 +6,11 @@ use bits::part;
 use registers::Settings;
 
 // A number of queued characters.
-#[derive(Drop)]
+#[derive(Clone, Copy)]
 pub struct Characters(pub u8);
 
 // A number of free spaces.
-#[derive(Drop)]
+#[derive(Clone, Copy)]
 pub struct Spaces(pub u8);
 
 const RECEIVE: [u8; 4] = [8, 16, 56, 60];

@@ -7,4 +7,4 @@ use Rattle.lines.specs.Modem.{ModemIn, msr_of}
 
 pub msr_sum : (m : Modem) → ModemIn m → joined_at m.changes 4 m.pins ≡ msr_of m
 unfolding msr_of
-msr_sum m h = joined_sum m.changes 4 m.pins h.changes_in h.pins_in_lem
+msr_sum m h = joined_sum m.changes 4 m.pins h.changes_in h.pins_in

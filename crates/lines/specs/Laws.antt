@@ -22,7 +22,7 @@ pub modem_read_lem : (m : Modem) (read : Register) → ModemIn m → ModemIn (mo
 unfolding modem_read
 modem_read_lem m read h =
     record {
-      pins_in_lem = h.pins_in_lem;
+      pins_in = h.pins_in;
       changes_in = pick_by (λ (n : ℕ). n < 16) (same read register.Msr) (λ _. omega arith) (λ _. h.changes_in);
     }
 
@@ -30,15 +30,15 @@ pub modem_changed_lem : (m : Modem) (value : ℕ) → value < 16 → ModemIn m �
 unfolding pins_changed
 modem_changed_lem m value v h =
     record {
-      pins_in_lem = v;
+      pins_in = v;
       changes_in =
           or_lt 4 m.changes _ h.changes_in
-          (lt_of_le_of_lt (and_le_l (bit_xor m.pins value) _) (xor_lt 4 m.pins value h.pins_in_lem v));
+          (lt_of_le_of_lt (and_le_l (bit_xor m.pins value) _) (xor_lt 4 m.pins value h.pins_in v));
     }
 
 pub msr_fits : (m : Modem) → ModemIn m → msr_of m < 256
 unfolding msr_of
-msr_fits m h = omega (arith, h.pins_in_lem, h.changes_in)
+msr_fits m h = omega (arith, h.pins_in, h.changes_in)
 
 pub shift_loaded_lem : (loaded : Bool) (oldest : ℕ) → oldest < 256 → (shift_loaded loaded oldest).byte < 256
 unfolding shift_loaded

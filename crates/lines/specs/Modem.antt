@@ -11,7 +11,7 @@ use Rattle.lines.specs.declared.modem.Modem.{Modem}
 
 -- the pins and their changes within their bounds, four bits each
 pub record ModemIn (m : Modem) : Type 0 where
-  pub pins_in_lem : m.pins < 16
+  pub pins_in : m.pins < 16
   pub changes_in : m.changes < 16
 
 unfoldable pub cts_asserted : Modem → Bool

@@ -12,7 +12,7 @@ const ANY_CHANGE: u8 = 0x0B;
 const RI: u8 = 0x04;
 
 #[repr(C)]
-#[derive(Drop)]
+#[derive(Clone, Copy)]
 pub struct Modem {
     pub pins: u8,
     pub changes: u8,

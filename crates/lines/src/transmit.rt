@@ -11,7 +11,7 @@ pub const TRANSMIT_ROOM: u8 = 64;
 
 // A character that is being sent.
 #[repr(C)]
-#[derive(Drop)]
+#[derive(Clone, Copy)]
 pub struct Shift {
     pub full: bool,
     pub byte: u8,

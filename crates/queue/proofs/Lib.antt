@@ -1,5 +1,3 @@
 -- For proofs alone: what those of single functions cite, and what walks over a lent queue share.
 pub mod OneWay
 pub mod Search
-pub mod Lent
-pub mod Called

@@ -208,9 +208,9 @@ ChangeIn Stay = Unit {0}
 character_moved : (q : Queue) (a : Change) (room : ℕ) → ChangeIn a → CharacterIn (moved_by q a room).character
 unfolding moved_by adds_to takes_from clears_all stays_as
 character_moved q (Add c) room h = h
-character_moved q Take room h = record { byte_in_lem = omega arith; mark_in_lem = omega arith }
-character_moved q Clear room h = record { byte_in_lem = omega arith; mark_in_lem = omega arith }
-character_moved q Stay room h = record { byte_in_lem = omega arith; mark_in_lem = omega arith }
+character_moved q Take room h = record { byte_in = omega arith; mark_in = omega arith }
+character_moved q Clear room h = record { byte_in = omega arith; mark_in = omega arith }
+character_moved q Stay room h = record { byte_in = omega arith; mark_in = omega arith }
 
 pub moved_in : (q : Queue) (a : Change) (room : ℕ) → WellFormed q → room ≤ 64 → ChangeIn a → MovedIn (moved_by q a room)
 unfolding after_of
@@ -229,11 +229,11 @@ module _ (q : Queue) (m : Moved) (moved : MovedIn m) where
 
   pub bytes_after : Below 256 q.bytes → Below 256 (after_of q m).bytes
   unfolding after_of
-  bytes_after h = put_below 256 m.puts q.bytes m.place m.character.byte moved.character_in.byte_in_lem h
+  bytes_after h = put_below 256 m.puts q.bytes m.place m.character.byte moved.character_in.byte_in h
 
   pub marks_after : Below 8 q.marks → Below 8 (after_of q m).marks
   unfolding after_of
-  marks_after h = put_below 8 m.puts q.marks m.place m.character.mark moved.character_in.mark_in_lem h
+  marks_after h = put_below 8 m.puts q.marks m.place m.character.mark moved.character_in.mark_in h
 
 -- by one change or another, as a condition has it
 pub moved_pick : (q : Queue) (goes : Bool) (a b : Change) (room : ℕ) → moved_by q (pick goes a b) room ≡ pick goes (moved_by q a room) (moved_by q b room)

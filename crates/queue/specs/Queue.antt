@@ -20,8 +20,8 @@ Below bound places = (place : ℕ) → get_or places place 0 < bound
 
 -- a character within its bounds: a byte, and a mark that is a sum of 1, 2 and 4
 pub record CharacterIn (c : Character) : Type 0 where
-  pub byte_in_lem : c.byte < 256
-  pub mark_in_lem : c.mark < 8
+  pub byte_in : c.byte < 256
+  pub mark_in : c.mark < 8
 
 -- a place that is written is one of the 64
 abbrev pub Fits : Moved → Type 0

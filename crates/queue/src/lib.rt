@@ -1,19 +1,21 @@
 // Queued characters with their marks, in one record of 64 places that are used round and round.
 // Nothing outside this crate looks at a place: others know a queue by the list that it stands for.
+#![tactic(auto)]
+
 ghost use Rattle.std.specs.Prelude.{◌≡◌, ◌≤◌};
 ghost use Rattle.bits.specs.Choice.{pick};
 ghost use Rattle.queue.specs.Queue.{WellFormed, Fits, empty_queue, none_added, adds_to, takes_from, clears_all, stays_as, oldest_of, any_mark_of, put_into, after_of};
 
 use bits::{chosen, one_if};
 
-#[derive(Drop)]
+#[derive(Clone, Copy)]
 pub struct Character {
     pub byte: u8,
     pub mark: u8,
 }
 
 #[repr(C)]
-#[derive(Drop)]
+#[derive(Clone, Copy)]
 pub struct Queue {
     bytes: [u8; 64],
     marks: [u8; 64],
@@ -23,7 +25,7 @@ pub struct Queue {
 
 // What becomes of a queue in an event: where its characters lie, whether one that was offered was kept, and the character
 // that goes to a place, if one does. Where none is offered none is lost.
-#[derive(Drop)]
+#[derive(Clone, Copy)]
 pub struct Moved {
     pub start: u8,
     pub count: u8,

@@ -55,7 +55,7 @@ module _ (s : Settings) (ok : SettingsIn s) where
   unfolding receiver_set
   receiver_in byte fits =
       let zeros = ok.efcr_in.efcr_zeros refl in
-      efcr_holds (replaced_at s.efcr byte 1 1) (replaced_fits s.efcr byte 1 1 ok.efcr_in.byte_in_lem fits)
+      efcr_holds (replaced_at s.efcr byte 1 1) (replaced_fits s.efcr byte 1 1 ok.efcr_in.byte_in fits)
       (replaced_above s.efcr byte 1 1 6 2 (omega arith) ∙ zeros.0) (replaced_above s.efcr byte 1 1 3 1 (omega arith) ∙ zeros.1)
 
   heard_in_mode : (m : Mode) (byte mark : ℕ) → SettingIn (heard_in m s byte mark).setting

@@ -6,7 +6,7 @@ use bits::{bit, chosen, cut, replaced};
 use registers::{Pair, Register, Setting, Settings, chooses_pair};
 
 // An arrival passes, or is dropped by a disabled receiver, or by address, or is taken as Xoff or Xon.
-#[derive(Drop)]
+#[derive(Clone, Copy)]
 pub enum Gate {
     Passes,
     Off,
@@ -16,7 +16,7 @@ pub enum Gate {
 }
 
 // How the receiver takes the ninth bit: not at all, as a mark, or as that of an address.
-#[derive(Drop)]
+#[derive(Clone, Copy)]
 enum Mode {
     Plain,
     Ninth,
@@ -24,7 +24,7 @@ enum Mode {
 }
 
 // What becomes of an arrival, whether it sets the special flag, and the register that it sets.
-#[derive(Drop)]
+#[derive(Clone, Copy)]
 pub struct Heard {
     pub gate: Gate,
     pub special: bool,

@@ -1,4 +1,6 @@
 // What the receiver makes of an arrival, and what it shows in LSR.
+#![tactic(auto)]
+
 mod arrival;
 mod line;
 

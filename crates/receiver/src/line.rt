@@ -7,7 +7,7 @@ use bits::{chosen, joined, one_if};
 use registers::Register;
 
 #[repr(C)]
-#[derive(Drop)]
+#[derive(Clone, Copy)]
 pub struct Line {
     pub overrun: bool,
     pub quiet: u8,
@@ -76,7 +76,7 @@ pub fn fate(gate: Gate, kept: bool) -> u16
 }
 
 // What LSR is made of.
-#[derive(Drop)]
+#[derive(Clone, Copy)]
 pub struct Status {
     pub ready: bool,
     pub overrun: bool,

@@ -10,7 +10,7 @@ use Rattle.registers.specs.Windows.{same}
 
 -- what a register may hold: a byte. "FCR 3, MCR 3 and EFCR 7, 6, 3 stay 0"; of FCR "Bits 1 and 2 aren't stored."
 pub record MayHold (r : Register) (byte : ℕ) : Type 0 where
-  pub byte_in_lem : byte < 256
+  pub byte_in : byte < 256
   pub fcr_zeros : same r register.IirFcr ≡ true → part_at byte 1 3 ≡ 0
   pub mcr_zeros : same r register.Mcr ≡ true → part_at byte 3 1 ≡ 0
   pub efcr_zeros : same r register.Efcr ≡ true → (part_at byte 6 2 ≡ 0) × (part_at byte 3 1 ≡ 0)

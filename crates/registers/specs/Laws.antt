@@ -61,13 +61,13 @@ closed_sets_none s set closed = rw closed
 -- 0 may be held by any register, a byte by any but the three that have bits which stay 0
 pub zero_held : (r : Register) → MayHold r 0
 unfolding part_at
-zero_held r = record { byte_in_lem = omega arith; fcr_zeros = λ _. refl; mcr_zeros = λ _. refl; efcr_zeros = λ _. (refl, refl) }
+zero_held r = record { byte_in = omega arith; fcr_zeros = λ _. refl; mcr_zeros = λ _. refl; efcr_zeros = λ _. (refl, refl) }
 
 pub byte_held : (r : Register) (byte : ℕ) → byte < 256
     → same r register.IirFcr ≡ false → same r register.Mcr ≡ false → same r register.Efcr ≡ false → MayHold r byte
 byte_held r byte fits fcr mcr efcr =
     record {
-      byte_in_lem = fits;
+      byte_in = fits;
       fcr_zeros = λ h. absurd (apart (sym fcr ∙ h));
       mcr_zeros = λ h. absurd (apart (sym mcr ∙ h));
       efcr_zeros = λ h. absurd (apart (sym efcr ∙ h));
@@ -76,15 +76,15 @@ byte_held r byte fits fcr mcr efcr =
 -- and by each of the three a byte where those are 0
 fcr_holds : (byte : ℕ) → byte < 256 → part_at byte 1 3 ≡ 0 → MayHold register.IirFcr byte
 fcr_holds byte fits zeros =
-    record { byte_in_lem = fits; fcr_zeros = λ _. zeros; mcr_zeros = λ h. absurd (apart h); efcr_zeros = λ h. absurd (apart h) }
+    record { byte_in = fits; fcr_zeros = λ _. zeros; mcr_zeros = λ h. absurd (apart h); efcr_zeros = λ h. absurd (apart h) }
 
 mcr_holds : (byte : ℕ) → byte < 256 → part_at byte 3 1 ≡ 0 → MayHold register.Mcr byte
 mcr_holds byte fits zero =
-    record { byte_in_lem = fits; fcr_zeros = λ h. absurd (apart h); mcr_zeros = λ _. zero; efcr_zeros = λ h. absurd (apart h) }
+    record { byte_in = fits; fcr_zeros = λ h. absurd (apart h); mcr_zeros = λ _. zero; efcr_zeros = λ h. absurd (apart h) }
 
 pub efcr_holds : (byte : ℕ) → byte < 256 → part_at byte 6 2 ≡ 0 → part_at byte 3 1 ≡ 0 → MayHold register.Efcr byte
 efcr_holds byte fits zeros zero =
-    record { byte_in_lem = fits; fcr_zeros = λ h. absurd (apart h); mcr_zeros = λ h. absurd (apart h); efcr_zeros = λ _. (zeros, zero) }
+    record { byte_in = fits; fcr_zeros = λ h. absurd (apart h); mcr_zeros = λ h. absurd (apart h); efcr_zeros = λ _. (zeros, zero) }
 
 pub none_in : SettingIn no_setting
 unfolding no_setting
@@ -99,7 +99,7 @@ module _ (s : Settings) (ok : SettingsIn s) (byte : ℕ) (fits : byte < 256) whe
   unfolding ier_written
   ier_taken =
       pick_by (MayHold register.Ier) (guard_open s) (λ _. byte_held register.Ier byte fits refl refl refl)
-      (λ _. byte_held register.Ier (replaced_at byte s.ier 4 4) (replaced_fits byte s.ier 4 4 fits ok.ier_in.byte_in_lem) refl refl refl)
+      (λ _. byte_held register.Ier (replaced_at byte s.ier 4 4) (replaced_fits byte s.ier 4 4 fits ok.ier_in.byte_in) refl refl refl)
 
   fcr_taken : MayHold register.IirFcr (fcr_written s byte)
   unfolding fcr_written
@@ -108,7 +108,7 @@ module _ (s : Settings) (ok : SettingsIn s) (byte : ℕ) (fits : byte < 256) whe
       let zeros : part_at stored 1 3 ≡ 0 = zeroed_part byte 1 3 in
       pick_by (MayHold register.IirFcr) (guard_open s)
       (λ _. fcr_holds stored (zeroed_fits 1 3) zeros)
-      (λ _. fcr_holds (replaced_at stored s.fcr 4 2) (replaced_fits stored s.fcr 4 2 (zeroed_fits 1 3) ok.fcr_in.byte_in_lem)
+      (λ _. fcr_holds (replaced_at stored s.fcr 4 2) (replaced_fits stored s.fcr 4 2 (zeroed_fits 1 3) ok.fcr_in.byte_in)
       (replaced_below stored s.fcr 4 2 1 3 (omega arith) ∙ zeros))
 
   mcr_taken : MayHold register.Mcr (mcr_written s byte)
@@ -116,11 +116,11 @@ module _ (s : Settings) (ok : SettingsIn s) (byte : ℕ) (fits : byte < 256) whe
   mcr_taken =
       let stored = replaced_at byte 0 3 1 in
       let high = replaced_at stored s.mcr 5 3 in
-      let high_fits : high < 256 = replaced_fits stored s.mcr 5 3 (zeroed_fits 3 1) ok.mcr_in.byte_in_lem in
+      let high_fits : high < 256 = replaced_fits stored s.mcr 5 3 (zeroed_fits 3 1) ok.mcr_in.byte_in in
       let zero : part_at stored 3 1 ≡ 0 = zeroed_part byte 3 1 in
       pick_by (MayHold register.Mcr) (guard_open s)
       (λ _. mcr_holds stored (zeroed_fits 3 1) zero)
-      (λ _. mcr_holds (replaced_at high s.mcr 2 1) (replaced_fits high s.mcr 2 1 high_fits ok.mcr_in.byte_in_lem)
+      (λ _. mcr_holds (replaced_at high s.mcr 2 1) (replaced_fits high s.mcr 2 1 high_fits ok.mcr_in.byte_in)
       (replaced_above high s.mcr 2 1 3 1 (omega arith) ∙ replaced_below stored s.mcr 5 3 3 1 (omega arith) ∙ zero))
 
   efcr_taken : MayHold register.Efcr (efcr_written byte)
@@ -147,8 +147,8 @@ module _ (s : Settings) (ok : SettingsIn s) (byte : ℕ) (fits : byte < 256) whe
       (λ _. written_to written register.IirFcr fcr_taken
       (λ fcr. written_to written register.Mcr mcr_taken
       (λ mcr. written_to written register.Efcr efcr_taken
-      (λ efcr. written_to written register.Dll (byte_held register.Dll (divisor_written s s.dll byte) (divisor_taken s.dll ok.dll_in.byte_in_lem) refl refl refl)
-      (λ _. written_to written register.Dlh (byte_held register.Dlh (divisor_written s s.dlh byte) (divisor_taken s.dlh ok.dlh_in.byte_in_lem) refl refl refl)
+      (λ efcr. written_to written register.Dll (byte_held register.Dll (divisor_written s s.dll byte) (divisor_taken s.dll ok.dll_in.byte_in) refl refl refl)
+      (λ _. written_to written register.Dlh (byte_held register.Dlh (divisor_written s s.dlh byte) (divisor_taken s.dlh ok.dlh_in.byte_in) refl refl refl)
       (λ _. byte_held written byte fits fcr mcr efcr))))))
 
   pub setting_in : (written : Register) → SettingIn (setting_of s written byte)
@@ -188,6 +188,6 @@ pub pair_in : (s : Settings) (place : ℕ) → SettingsIn s → PairIn (pair_at 
 unfolding pair_at
 pair_in s place ok =
     record {
-      xon_in = pick_by (λ (n : ℕ). n < 256) (chooses_first s.efr place) (λ _. ok.xon1_in.byte_in_lem) (λ _. ok.xon2_in.byte_in_lem);
-      xoff_in = pick_by (λ (n : ℕ). n < 256) (chooses_first s.efr place) (λ _. ok.xoff1_in.byte_in_lem) (λ _. ok.xoff2_in.byte_in_lem);
+      xon_in = pick_by (λ (n : ℕ). n < 256) (chooses_first s.efr place) (λ _. ok.xon1_in.byte_in) (λ _. ok.xon2_in.byte_in);
+      xoff_in = pick_by (λ (n : ℕ). n < 256) (chooses_first s.efr place) (λ _. ok.xoff1_in.byte_in) (λ _. ok.xoff2_in.byte_in);
     }

@@ -1,4 +1,6 @@
 // The stored registers of a channel, a machine of their own: what they become depends on them and the event alone.
+#![tactic(auto)]
+
 mod pair;
 mod register;
 mod settings;

@@ -7,7 +7,7 @@ use crate::register::Register;
 use crate::settings::{Setting, Settings};
 use bits::{chosen, part};
 
-#[derive(Drop)]
+#[derive(Clone, Copy)]
 pub struct Pair {
     pub xon: u8,
     pub xoff: u8,

@@ -3,7 +3,7 @@
 ghost use Rattle.std.specs.Prelude.{◌≡◌};
 ghost use Rattle.registers.specs.Windows.{place, same};
 
-#[derive(Drop)]
+#[derive(Clone, Copy)]
 pub enum Register {
     RhrThr,
     Ier,

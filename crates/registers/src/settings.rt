@@ -7,7 +7,7 @@ use crate::register::Register;
 use bits::{bit, chosen, replaced};
 
 #[repr(C)]
-#[derive(Drop)]
+#[derive(Clone, Copy)]
 pub struct Settings {
     pub lcr: u8,
     pub ier: u8,
@@ -27,7 +27,7 @@ pub struct Settings {
 }
 
 // A register and the byte that it is to hold; no event sets more than one. A register that holds nothing is not set.
-#[derive(Drop)]
+#[derive(Clone, Copy)]
 pub struct Setting {
     pub register: Register,
     pub byte: u8,

@@ -15,7 +15,7 @@ use file::{Reading, read_at};
 const LINE: usize = 16;
 
 // The device after the events so far, the place and the index of the next, and whether the run is over.
-#[derive(Drop)]
+#[derive(Clone, Copy)]
 pub struct Cursor {
     pub device: Device,
     pub place: usize,
@@ -24,21 +24,21 @@ pub struct Cursor {
 }
 
 // What a step says: an answer under the cursor's index, or nothing.
-#[derive(Drop)]
+#[derive(Clone, Copy)]
 enum Said {
     Answer(Answer),
     Nothing,
 }
 
 // The cursor after a step, and what the step says.
-#[derive(Drop)]
+#[derive(Clone, Copy)]
 struct Progress {
     cursor: Cursor,
     said: Said,
 }
 
 // The cursor after the lines that were put into a buffer, and how many bytes they are.
-#[derive(Drop)]
+#[derive(Clone, Copy)]
 pub struct Filled {
     pub cursor: Cursor,
     pub count: usize,

@@ -1,4 +1,6 @@
 // A run over a whole input: its events one after the other on a new device, and a line of text for each answer.
+#![tactic(auto)]
+
 mod cursor;
 mod line;
 

@@ -1,4 +1,6 @@
 // The chip as C sees it: two functions over a record that the caller keeps and lends.
+#![tactic(auto)]
+
 ghost use Rattle.std.specs.Prelude.{◌≡◌};
 ghost use Rattle.event.specs.Events.{event_of};
 ghost use Rattle.device.specs.Reset.{new_device};

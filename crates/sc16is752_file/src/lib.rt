@@ -1,4 +1,6 @@
 // The writer of event files as C sees it.
+#![tactic(auto)]
+
 ghost use Rattle.event.specs.Events.{event_of};
 ghost use Rattle.writer.specs.Writing.{Put};
 

@@ -1,4 +1,6 @@
 // The text of a line, put into a buffer at a place; each function gives the place after what it put.
+#![tactic(auto)]
+
 ghost use Rattle.std.specs.Prelude.{◌≡◌, ◌+◌, ◌≤◌, length};
 ghost use Rattle.std.proofs.lemmas.List.Edits.{sets};
 ghost use Rattle.text.specs.Text.{decimal, line_with};

@@ -1,4 +1,6 @@
 // An event's bytes, as an event file has them.
+#![tactic(auto)]
+
 ghost use Rattle.std.specs.Prelude.{◌≡◌, ◌++◌, ◌≤◌, length, take, drop};
 ghost use Rattle.event.specs.Events.{InRange, event_of};
 ghost use Rattle.writer.specs.Writing.{whole_of, written_of, Put};
@@ -9,7 +11,7 @@ use event::{Event, Made, Touch, event_of, refused_answer};
 const TWO_GROUPS: u8 = 128;
 
 // The bytes with their count, places past the count 0, and 0 for the refusal; of a refused event no byte, and its number.
-#[derive(Drop)]
+#[derive(Clone, Copy)]
 pub struct Written {
     pub bytes: [u8; 5],
     pub count: u8,

@@ -1,0 +1,16 @@
+use Rattle.bits.specs.Laws.{part_in}
+use borrow.Author.Tests.{ne_eqb}
+use borrow.Author.Rules.{rules}
+use Rattle.levels.specs.Levels.{resume_level}
+use Rattle.levels.proofs.trigger.resume_level.Goals as goal
+
+pub bounds-place : goal.bounds-place
+bounds-place c = rw c.result-1.ensures (part_in _ _ 2)
+
+pub returns-then-settings-eq0 : goal.returns-then-settings-eq0
+unfolding resume_level
+returns-then-settings-eq0 c = simp (c.result-then-settings-eq0-1.ensures, c.result-1.true)
+
+pub returns : goal.returns
+unfolding resume_level
+returns c = simp (c.four_times.ensures, ne_eqb _ _ c.if-settings-eq0.false)

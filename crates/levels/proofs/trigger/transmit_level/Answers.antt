@@ -1,0 +1,16 @@
+use Rattle.bits.specs.Laws.{part_in}
+use borrow.Author.Tests.{ne_eqb}
+use borrow.Author.Rules.{rules}
+use Rattle.levels.specs.Levels.{transmit_level}
+use Rattle.levels.proofs.trigger.transmit_level.Goals as goal
+
+pub bounds-place : goal.bounds-place
+bounds-place c = rw c.result-1.ensures (part_in _ _ 2)
+
+pub returns-then-own-eq0 : goal.returns-then-own-eq0
+unfolding transmit_level
+returns-then-own-eq0 c = simp (c.result-then-own-eq0-1.ensures, c.result-1.true, ← c.part-place.ensures)
+
+pub returns : goal.returns
+unfolding transmit_level
+returns c = simp (ne_eqb _ _ c.if-own-eq0.false, ← c.four_times-own.ensures)

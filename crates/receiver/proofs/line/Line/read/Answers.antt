@@ -1,0 +1,7 @@
+use borrow.Author.Rules.{rules}
+use Rattle.receiver.specs.Line.{line_read}
+use Rattle.receiver.proofs.line.Line.read.Goals as goal
+
+pub returns : goal.returns
+unfolding line_read
+returns c = simp (c.chosen.ensures, c.is-2.ensures, c.is.ensures)
