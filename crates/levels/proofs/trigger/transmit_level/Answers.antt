@@ -5,11 +5,11 @@ use Rattle.levels.specs.Levels.{transmit_level}
 use Rattle.levels.proofs.trigger.transmit_level.Goals as goal
 
 pub bounds-place : goal.bounds-place
-bounds-place c = rw c.result-1.ensures (part_in _ _ 2)
+bounds-place c = rw c.part-place.ensures (part_in _ _ 2)
 
 pub returns-then-own-eq0 : goal.returns-then-own-eq0
 unfolding transmit_level
-returns-then-own-eq0 c = simp (c.result-then-own-eq0-1.ensures, c.result-1.true, ← c.part-place.ensures)
+returns-then-own-eq0 c = simp (c.part-place.ensures, c.if-own-eq0.true, ← c.four_times-own.ensures)
 
 pub returns : goal.returns
 unfolding transmit_level

@@ -1,0 +1,24 @@
+use native.Mathlib.Omega.{arith}
+use mathlib.Core.Path.{◌∙◌}
+use lib.ListN.{length-set}
+use Rattle.text.specs.Laws.{line_length}
+use Rattle.text.proofs.Lines.{line_stored}
+use Rattle.text.proofs.put_line.Goals as goal
+
+pub put_number-indexed-requires : goal.put_number-indexed-requires
+put_number-indexed-requires c = omega (arith, line_length c.args.index c.args.word.now c.args.number, c.requires)
+
+pub put_text-worded-requires : goal.put_text-worded-requires
+put_text-worded-requires c = omega (arith, line_length c.args.index c.args.word.now c.args.number, c.requires, c.put_number-indexed.ensures.0, c.put_number-indexed.auto.0)
+
+pub put_number-numbered-requires : goal.put_number-numbered-requires
+put_number-numbered-requires c = omega (arith, line_length c.args.index c.args.word.now c.args.number, c.requires, c.put_number-indexed.ensures.0, c.put_number-indexed.auto.0, c.put_text-worded.ensures.0, c.put_text-worded.auto.0)
+
+pub bounds-out-numbered : goal.bounds-out-numbered
+bounds-out-numbered c = omega (arith, line_length c.args.index c.args.word.now c.args.number, c.requires, c.put_number-indexed.ensures.0, c.put_number-indexed.auto.0, c.put_text-worded.ensures.0, c.put_text-worded.auto.0, c.put_number-numbered.ensures.0, c.put_number-numbered.auto.0)
+
+pub overflow_add-result : goal.overflow_add-result
+overflow_add-result c = omega (arith, line_length c.args.index c.args.word.now c.args.number, c.requires, c.put_number-indexed.ensures.0, c.put_number-indexed.auto.0, c.put_text-worded.ensures.0, c.put_text-worded.auto.0, c.put_number-numbered.ensures.0, c.put_number-numbered.auto.0)
+
+pub returns : goal.returns
+returns c = (omega (arith, line_length c.args.index c.args.word.now c.args.number, c.requires, c.put_number-indexed.ensures.0, c.put_number-indexed.auto.0, c.put_text-worded.ensures.0, c.put_text-worded.auto.0, c.put_number-numbered.ensures.0, c.put_number-numbered.auto.0), line_stored _ _ _ _ _ _ _ _ _ _ _ c.put_number-indexed.ensures.0 c.put_number-indexed.ensures.1 c.put_text-worded.ensures.0 c.put_text-worded.ensures.1 c.put_number-numbered.ensures.0 c.put_number-numbered.ensures.1)

@@ -1,0 +1,33 @@
+use Prim.Native.Nat.{ℕ, ◌<◌, ◌≤◌}
+use native.Mathlib.Omega.{arith}
+use mathlib.Core.Path.{◌≡◌, refl, ap}
+use mathlib.Core.List.{List, ◌++◌}
+use lib.ListN.{length, take, drop}
+use lib.Seq.{take-append_seam}
+use borrow.Author.Rules.{rules}
+use borrow.Author.Tests.{le-leb, lt-leb}
+use Rattle.event.specs.declared.events.Made.{Made}
+use Rattle.event.specs.declared.events.Made.TheVariants as made
+use Rattle.event.specs.Refusals.{refused_answer}
+use Rattle.event.specs.Events.{event_of}
+use Rattle.event.specs.Laws.{refusal_some}
+use Rattle.writer.specs.declared.Written.{Written}
+use Rattle.file.specs.Form.{bytes_of}
+use Rattle.writer.specs.Writing.{padded, whole_of, written_of, put_answer, put_into, Put}
+use Rattle.writer.specs.Theorems.{written_five_at_most}
+use Rattle.writer.proofs.put_event.Goals as goal
+
+five : (kind x y z : ℕ) (w : Written) → w ≡ written_of (event_of kind x y z) → w.count ≤ 5
+five kind x y z w is = rw is (written_five_at_most kind x y z).1
+
+pub returns-then-written-ne0 : goal.returns-then-written-ne0
+returns-then-written-ne0 c = rw c.refused_answer.ensures (refused _ _ _ c.write-written.ensures c.if-written-ne0.true)
+
+pub returns-then-out-count : goal.returns-then-out-count
+returns-then-out-count c = too_long _ _ _ c.write-written.ensures c.if-written-ne0.false c.if-out-count.true
+
+pub put_front-requires : goal.put_front-requires
+put_front-requires c = (five _ _ _ _ _ c.write-written.ensures, c.if-out-count.false)
+
+pub returns : goal.returns
+returns c = fitting _ _ _ _ c.write-written.ensures c.if-written-ne0.false c.if-out-count.false c.put_front.ensures
