@@ -1,3 +1,4 @@
+-- The loop's invariant: the bytes before `i` are stored from `at` on. The measure is what is left of the text.
 use Prim.Native.Nat.{◌+◌, ◌-◌, ◌≤◌}
 use native.Mathlib.Omega.{arith}
 use mathlib.Core.Path.{◌≡◌, refl}
@@ -34,4 +35,4 @@ loop-i-preserved c =
     )
 
 pub returns : goal.returns
-returns c = (omega arith, stored_all _ _ _ _ _ c.loop-i.invariant.3 c.loop-i-test.false)
+returns c = record { value = omega arith; out_after = stored_all _ _ _ _ _ c.loop-i.invariant.3 c.loop-i-test.false }

@@ -1,3 +1,4 @@
+-- The loop's invariant: the bytes before `i` are put. The measure is what is left of the count.
 use Prim.Native.Nat.{ℕ, suc, ◌+◌, ◌-◌, ◌<◌, ◌≤◌}
 use native.Mathlib.Nat.{zero-add}
 use native.Mathlib.Numerals.{add-one}
