@@ -1,0 +1,16 @@
+use native.Mathlib.Omega.{arith}
+use mathlib.Core.Path.{refl}
+use Rattle.run.specs.Cursor.{text_said}
+use borrow.Author.Rules.{rules}
+use Rattle.run.proofs.cursor.put_said.Goals as goal
+
+pub put_answer-requires : goal.put_answer-requires
+put_answer-requires c = (c.requires.0, c.requires.1)
+
+pub returns-in-Answer : goal.returns-in-Answer
+unfolding text_said
+returns-in-Answer c = rw c.in-Answer.is (c.put_answer.ensures.value, c.put_answer.ensures.out_after)
+
+pub returns-in-Nothing : goal.returns-in-Nothing
+unfolding text_said
+returns-in-Nothing c = rw c.in-Nothing.is ((omega arith, omega arith), refl)
