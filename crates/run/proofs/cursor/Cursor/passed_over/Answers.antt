@@ -12,7 +12,7 @@ unfolding answered_of
 refused_unchanged d r = refl
 
 pub overflow_add-index : goal.overflow_add-index
-overflow_add-index c = omega (arith, c.requires.0.index_in, c.requires.0.IsPlace-in)
+overflow_add-index c = omega (arith, c.requires.0.index_in, c.requires.0.place_in)
 
 pub returns : goal.returns
 returns c = simp (refused_unchanged, c.requires.1)
