@@ -11,16 +11,14 @@ use device::Device;
 use lent::advance;
 
 // The lent record is a new device's afterwards.
-#[unsafe(no_mangle)]
-pub extern "C" fn sc16is752_new(chip: &mut Device)
+pub fn sc16is752_new(chip: &mut Device)
     ensures { chip.new ≡ new_device }
 {
     *chip = Device::new();
 }
 
 // One event, from plain numbers, on the lent record: the reply, or 512 and the refusal number.
-#[unsafe(no_mangle)]
-pub extern "C" fn sc16is752_step(chip: &mut Device, kind: u64, x: u64, y: u64, z: u64) -> u32
+pub fn sc16is752_step(chip: &mut Device, kind: u64, x: u64, y: u64, z: u64) -> u32
     requires { WellFormed chip.old }
     ensures { Advanced chip.old (event_of kind x y z) chip.new result }
 {
