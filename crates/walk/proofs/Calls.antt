@@ -2,13 +2,13 @@
 --     by_value     no reference is passed
 --     lent         a `&mut R` first, then plain data: x lies there before, and y after
 --     lent_two     two `&mut` first
---     lend, lend-two       what is passed is a field, or two, of a record that lies there
+--     lend, lend_two       what is passed is a field, or two, of a record that lies there
 use mathlib.Core.Path.{◌≡◌, subst}
 use Prim.Native.Nat.{ℕ, ◌+◌}
 use mathlib.Core.List.{List, [], ◌∷◌}
 use seplogic.Ra.Ura.{Ura}
-use seplogic.Ra.TreeShare.{full_share}
-use mir.Syntax.{Name, named}
+use base.Fraction.{full_share}
+use mir.Syntax.{Callee, named}
 use mir.Val.{Val, vptr}
 use base.Logic.{SProp, ent, sep, wand, all, emp, id⊢, via, mono∗, mono_l, all_e, apply∗}
 use base.Fml.{Fml, GName, ftrue, flft, flent}
@@ -45,7 +45,7 @@ abbrev pub lending_two : (R P : RattleType) (ps : List (Slot 2)) (S : RattleType
 lending_two R P ps S ks =
     record { signature = record { lifetimes = 2; outlives = []; params = mut_ref_to (0 ∷ []) tt (plain (λ _. R)) ∷ mut_ref_to (1 ∷ []) tt (plain (λ _. P)) ∷ ps; result = plain (λ _. S) }; kept = (yes, (yes, ks)) }
 
-module _ {M : Type 1} {𝓤 : Ura M} (𝓛 : Logic 𝓤) (C : Calls 𝓤 𝓛.H) (fm : FmC 𝓤 𝓛.H 𝓛.laws C) (f : Name) where
+module _ {M : Type 1} {𝓤 : Ura M} (𝓛 : Logic 𝓤) (C : Calls 𝓤 𝓛.H) (fm : FmC 𝓤 𝓛.H 𝓛.laws C) (f : Callee) where
   -- the rest of what is had is kept meanwhile
   open 𝓛 use {H, A}
 
@@ -81,7 +81,7 @@ module _ {M : Type 1} {𝓤 : Ura M} (𝓛 : Logic 𝓤) (C : Calls 𝓤 𝓛.H)
       does =
           qed 𝓛 (i ∷ []) ∵ updating ! $ at_once ! $ use0 𝓛 (raw (C f (flat (types_at ps tt) vss) (Contracted.post y))) (via 𝓤 (Contracted.pre y) (qed 𝓛 [] ∵ use0 𝓛 (raw ((c tt a).requires g)) asks $ use0 𝓛 (‵ (owns (types_at ps tt) a vss)) (have 𝓛 (types_at ps tt) ds a are) $ nothing ! $ join ! $ done !) (known y)) $
           by ! (fm f (flat (types_at ps tt) vss) (Contracted.post y) Q (mean 𝓛 i) (λ v.
-          qed 𝓛 (later (some (λ (r' : S.Denot). (‵ ftrue ⊛ ‵ (S.own r' (v ∷ []))) ⊛ some (λ (ws : Lasts (plainly ps S ks) tt a). ‵ (lasts (plainly ps S ks) tt a ws) ⊛ raw ((c tt a).ensures g r' (at_exit (plainly ps S ks) tt a ws))))) ∷ i ∷ []) ∵
+          qed 𝓛 (later (some (λ (r' : S.Denot). (‵ ftrue ⊛ ‵ (S.own_val r' (v ∷ []))) ⊛ some (λ (ws : Lasts (plainly ps S ks) tt a). ‵ (lasts (plainly ps S ks) tt a ws) ⊛ raw ((c tt a).ensures g r' (at_exit (plainly ps S ks) tt a ws))))) ∷ i ∷ []) ∵
           updating ! $ await ! tt $ pick ! (λ r'. split ! $ move ! (1 ∷ []) $ pick ! (λ ws. split ! $ drop ! $ use1 𝓛 (raw (fact 𝓤 (r' ≡ r))) (tells r' ws) $ heard ! (r' ≡ r) (λ e. split ! $ drop ! $
           peeks ! S (Is S) (shows 𝓛 S) r' (v ∷ []) (λ is. drop ! $ at_once ! $ says ! (subst (λ (u : S.Denot). Is S u (v ∷ [])) e is) $ done !))))));
     }
@@ -135,10 +135,10 @@ module _ {M : Type 1} {𝓤 : Ura M} (𝓛 : Logic 𝓤) (C : Calls 𝓤 𝓛.H)
 
           back : (ν : ℕ) (δ : GName) (v : Val) → ent 𝓤 (sep 𝓤 (Lending.post (at ν δ) v) (A.lent (ν ∷ []) (Body (mem R) b o δ))) (Q v)
           back ν δ v =
-              qed 𝓛 (later (some (λ (r' : S.Denot). ((‵ (flft (ν ∷ []) full_share) ⊛ ‵ ftrue) ⊛ ‵ (S.own r' (v ∷ []))) ⊛ some (λ (ws : Lasts (lending R ps S ks) (ν ∷ [], tt) (passed_on (ν ∷ [], tt) δ)). ‵ (lasts (lending R ps S ks) (ν ∷ [], tt) (passed_on (ν ∷ [], tt) δ) ws)
+              qed 𝓛 (later (some (λ (r' : S.Denot). ((‵ (flft (ν ∷ []) full_share) ⊛ ‵ ftrue) ⊛ ‵ (S.own_val r' (v ∷ []))) ⊛ some (λ (ws : Lasts (lending R ps S ks) (ν ∷ [], tt) (passed_on (ν ∷ [], tt) δ)). ‵ (lasts (lending R ps S ks) (ν ∷ [], tt) (passed_on (ν ∷ [], tt) δ) ws)
               ⊛ raw ((c (ν ∷ [], tt) (passed_on (ν ∷ [], tt) δ)).ensures (g (ν ∷ [], tt) δ) r' (at_exit (lending R ps S ks) (ν ∷ [], tt) (passed_on (ν ∷ [], tt) δ) ws))))) ∷ ‵ (flent (ν ∷ []) (Body (mem R) b o δ)) ∷ []) ∵
               updating ! $ await ! tt $ pick ! (λ r'. split ! $ move ! (1 ∷ []) $ pick ! (λ ws. split ! $ move ! (1 ∷ []) $ use1 𝓛 (raw (fact 𝓤 ((r' ≡ r) × (ws.0 ≡ y)))) (tells (ν ∷ [], tt) δ r' ws) $ heard ! ((r' ≡ r) × (ws.0 ≡ y)) (λ e.
-              fsplit ! $ move ! (2 ∷ []) $ split ! $ split ! $ lft_end ! tt $ move ! (2 ∷ []) $ peeks ! S (Is S) (shows 𝓛 S) r' (v ∷ []) (λ is. move ! (1 ∷ 5 ∷ 3 ∷ []) $
+              fsplit ! $ fsplit ! $ move ! (1 ∷ []) $ drop ! $ move ! (2 ∷ []) $ split ! $ split ! $ lft_end ! tt $ move ! (2 ∷ []) $ peeks ! S (Is S) (shows 𝓛 S) r' (v ∷ []) (λ is. move ! (1 ∷ 5 ∷ 3 ∷ []) $
               use3 𝓛 (later (‵ (part_at R full_share ws.0 b o))) (ref_back 𝓛 R (ν ∷ []) δ ws.0 b o) $ await ! tt $ keep ! (0 ∷ []) $
               use1 𝓛 (lies R y b o) (subst (λ (z : R.Denot). ent 𝓤 (Lies 𝓛 R ws.0 b o) (mean 𝓛 (lies R z b o))) e.1 (said 𝓛 R ws.0 b o)) $ at_once ! $
               says ! (subst (λ (u : S.Denot). Is S u (v ∷ [])) e.0 is) $ done !))))
@@ -196,10 +196,10 @@ module _ {M : Type 1} {𝓤 : Ura M} (𝓛 : Logic 𝓤) (C : Calls 𝓤 𝓛.H)
 
           back : (ν μ : ℕ) (δ ε : GName) (v : Val) → ent 𝓤 (sep 𝓤 (Lending₂.post (at ν μ δ ε) v) (Kept ν μ δ ε)) (Q v)
           back ν μ δ ε v =
-              qed 𝓛 (later (some (λ (r' : S.Denot). ((‵ (flft (ν ∷ []) full_share) ⊛ ‵ (flft (μ ∷ []) full_share) ⊛ ‵ ftrue) ⊛ ‵ (S.own r' (v ∷ []))) ⊛ some (λ (ws : Lasts T₂ (κs ν μ) (both_on (κs ν μ) δ ε)). ‵ (lasts T₂ (κs ν μ) (both_on (κs ν μ) δ ε) ws)
+              qed 𝓛 (later (some (λ (r' : S.Denot). ((‵ (flft (ν ∷ []) full_share) ⊛ ‵ (flft (μ ∷ []) full_share) ⊛ ‵ ftrue) ⊛ ‵ (S.own_val r' (v ∷ []))) ⊛ some (λ (ws : Lasts T₂ (κs ν μ) (both_on (κs ν μ) δ ε)). ‵ (lasts T₂ (κs ν μ) (both_on (κs ν μ) δ ε) ws)
               ⊛ raw ((c (κs ν μ) (both_on (κs ν μ) δ ε)).ensures (g (κs ν μ) δ ε) r' (at_exit T₂ (κs ν μ) (both_on (κs ν μ) δ ε) ws))))) ∷ ‵ (flent (ν ∷ []) (Body (mem R) b o δ)) ∷ ‵ (flent (μ ∷ []) (Body (mem P) b p ε)) ∷ []) ∵
               updating ! $ await ! tt $ pick ! (λ r'. split ! $ move ! (1 ∷ []) $ pick ! (λ ws. split ! $ move ! (1 ∷ []) $ use1 𝓛 (raw (fact 𝓤 ((r' ≡ r) × ((ws.0 ≡ y) × (ws.1.0 ≡ w))))) (tells (κs ν μ) δ ε r' ws) $ heard ! ((r' ≡ r) × ((ws.0 ≡ y) × (ws.1.0 ≡ w))) (λ e.
-              fsplit ! $ move ! (1 ∷ []) $ fsplit ! $ move ! (3 ∷ []) $ split ! $ split3 ! $ lft_end ! tt $ move ! (1 ∷ []) $ lft_end ! tt $
+              fsplit ! $ fsplit ! $ move ! (1 ∷ []) $ drop ! $ move ! (1 ∷ []) $ fsplit ! $ fsplit ! $ move ! (1 ∷ []) $ drop ! $ move ! (3 ∷ []) $ split ! $ split3 ! $ lft_end ! tt $ move ! (1 ∷ []) $ lft_end ! tt $
               -- [†μ; †ν; emp; the result; res ε; the other last values; res δ; lent R; lent P]
               move ! (3 ∷ []) $ peeks ! S (Is S) (shows 𝓛 S) r' (v ∷ []) (λ is. move ! (1 ∷ 8 ∷ 4 ∷ []) $
               use3 𝓛 (later (‵ (part_at P full_share ws.1.0 b p))) (ref_back 𝓛 P (μ ∷ []) ε ws.1.0 b p) $ await ! tt $

@@ -4,7 +4,7 @@ use Prim.Native.Nat.{ℕ, zero, ◌+◌}
 use mathlib.Core.Option.{some as found}
 use mathlib.Core.List.{List, [], ◌∷◌, map}
 use seplogic.Ra.Ura.{Ura}
-use seplogic.Ra.TreeShare.{full_share}
+use base.Fraction.{full_share}
 use mir.Syntax.{Sym}
 use base.Logic.{SProp, ent, sep, wand, all, via, id⊢, mono_r, wand_i, all_i, comm∗, all_e, apply∗}
 use base.Fml.{Fml}
@@ -20,6 +20,7 @@ use denote.Struct.Struct.{Struct, to_tys}
 use denote.Struct.Declared.{Declared, row}
 use denote.Struct.Record.{Record, Propositions, declared}
 use denote.Struct.Laws.{Lawss}
+use denote.Struct.Loose.{loosens}
 use denote.Struct.At.{FieldAt, get_at, put_at}
 use denote.Struct.Members.{Member, row_of, rows_of, parts_at}
 use denote.Struct.Parts.{shape_of, PartsBack, Struct-parts}
@@ -45,17 +46,17 @@ module _ (N : Record) (gp : Propositions N) (L : Lawss N.parts) (gh : (v : Value
   em v g = ap (intos N.parts) (N.beta v g)
 
   abbrev Kept : {M : Type 1} {𝓤 : Ura M} (𝓛 : Logic 𝓤) → N.D → ℕ → ℕ → Item 𝓤
-  Kept {M} {𝓤 = 𝓤} 𝓛 x b o = kept_record_as U L k d P to_v of_v to_same of_same N.as_values N.Ghost N.make gh (λ y. refl) em M 𝓤 𝓛 x b o
+  Kept {M} {𝓤 = 𝓤} 𝓛 x b o = kept_record_as U (loosens N.parts L) k d P to_v of_v to_same of_same N.as_values N.Ghost N.make gh (λ y. refl) em M 𝓤 𝓛 x b o
 
   pub cuts : One (FieldAt N.parts k).row → field_at zero (to_tys (mirs (rows N.parts))) k ≡ found (lone (FieldAt N.parts k).row.mir, d) → {M : Type 1} {𝓤 : Ura M} (𝓛 : Logic 𝓤) (x : N.D) (b o : ℕ)
       → ent 𝓤 (sem 𝓛 (part_at (row U) full_share x b o)) (sep 𝓤 (sem 𝓛 (part_at P full_share (of_v (get_at N.parts k (N.as_values x))) b (o + d))) (all 𝓤 (λ (y : P.Denot). wand 𝓤 (sem 𝓛 (part_at P full_share y b (o + d))) (sem 𝓛 (part_at (row U) full_share (set x y) b o)))))
   cuts one here {M} {𝓤 = 𝓤} 𝓛 x b o =
       via 𝓤 (sep 𝓤 (sem 𝓛 (part_at P full_share (of_v (get_at N.parts k (N.as_values x))) b (o + d))) (mean 𝓛 (Kept 𝓛 x b o)))
-      (record_apart_as U L k d P to_v of_v to_same of_same N.as_values N.Ghost N.make gh (λ y. refl) em 𝓛 one here x b o)
+      (record_apart_as U (loosens N.parts L) k d P to_v of_v to_same of_same N.as_values N.Ghost N.make gh (λ y. refl) em 𝓛 one here x b o)
       (mono_r 𝓤 (sem 𝓛 (part_at P full_share (of_v (get_at N.parts k (N.as_values x))) b (o + d))) (all_i 𝓤 (λ (y : P.Denot). wand 𝓤 (sem 𝓛 (part_at P full_share y b (o + d))) (sem 𝓛 (part_at (row U) full_share (set x y) b o))) (λ y.
       wand_i 𝓤 (mean 𝓛 (Kept 𝓛 x b o)) (sem 𝓛 (part_at P full_share y b (o + d))) (sem 𝓛 (part_at (row U) full_share (set x y) b o))
       (via 𝓤 (sep 𝓤 (sem 𝓛 (part_at P full_share y b (o + d))) (mean 𝓛 (Kept 𝓛 x b o))) (comm∗ 𝓤 (mean 𝓛 (Kept 𝓛 x b o)) (sem 𝓛 (part_at P full_share y b (o + d))))
-      (record_fill_as U L k d P to_v of_v to_same of_same N.as_values N.Ghost N.make gh (λ y. refl) em one M 𝓤 𝓛 x y b o)))))
+      (record_fill_as U (loosens N.parts L) k d P to_v of_v to_same of_same N.as_values N.Ghost N.make gh (λ y. refl) em one M 𝓤 𝓛 x y b o)))))
 
   abbrev pub field_of : One (FieldAt N.parts k).row → field_at zero (to_tys (mirs (rows N.parts))) k ≡ found (lone (FieldAt N.parts k).row.mir, d) → FieldOf (row U) P d
   field_of one here = record {

@@ -5,25 +5,25 @@
 --     FieldOf R P d, TwoOf     a field of R, d bytes on, or two: `Fields.antt` makes them
 --     Turns C f vs i j S r     the call f(vs) turns the entry i into j and returns r: `Calls.antt` makes it of a contract
 --     knows                    what lies there is of its type
---     own, own-field           operands: local i, and field k of it
+--     own, own_field           operands: local i, and field k of it
 --     widens, wider            `.. as u32` of an unsigned operand, and that a number that fits a width fits a wider one
---     copies, copies-field, stores, replaces, takes, passes      `let t = *p;`, `let t = (*p).f;`, `(*p).f = ..;`, `*p = ..;`, `&mut (*p).f`, `&mut *p`
+--     copies, copies_field, stores, replaces, takes, passes      `let t = *p;`, `let t = (*p).f;`, `(*p).f = ..;`, `*p = ..;`, `&mut (*p).f`, `&mut *p`
 --     holds                    a local is given a known value (`Stack.antt`'s `lets` for any)
 --     calls                    a call, by `Turns`
 --     forks, forgets           a branch; and some locals forgotten, so that its ways meet in one context
---     .. -end, ahead           the same as the last statement of an arm: `exec` goes on with what follows
+--     .. _end, ahead           the same as the last statement of an arm: `exec` goes on with what follows
 use mathlib.Core.Path.{◌≡◌, refl, sym, ap, subst}
 use Prim.Native.Nat.{ℕ, zero, ◌+◌}
 use mathlib.Core.Option.{Option, none, some as found}
 use mathlib.Core.List.{List, [], ◌∷◌}
 use seplogic.Ra.Ura.{Ura}
-use seplogic.Ra.TreeShare.{full_share}
+use base.Fraction.{full_share}
 use lib.Dec.{T, leb, leb→le}
 use lib.Pow.{pow_mono}
 use native.Mathlib.Nat.{lt_of_lt_of_le}
 use mathlib.Core.Bool.{Bool, true, false, not}
-use mir.Syntax.{Name, Ty, Step as PStep, Width, Opd as Operand, ty_int, ty_bool, ty_float, ty_ptr, ty_ref, ty_array, ty_unit, ty_struct, ty_enum, ty_named, copy, rv_opd, op1, cast, unsigned, Rv as RValue, place, deref, field, addr_of, Body, seq, assign, cond, call}
-use mir.Val.{Val, WT, has_ty, bits, vunit, vbool, vint, vfloat, vptr, vstruct}
+use mir.Syntax.{Callee, Ty, Step as PStep, Width, Opd as Operand, ty_int, ty_bool, ty_float, ty_ptr, ty_ref, ty_array, ty_unit, ty_struct, ty_enum, ty_param, ty_const, ty_array_p, ty_named, copy, rv_opd, op1, cast, unsigned, Rv as RValue, place, deref, field, addr_of, Body, seq, assign, cond, call}
+use mir.Val.{Val, WT, has_ty, bits, vunit, vbool, vint, vfloat, vptr, vstruct, vcode}
 use mir.Fields.{get_v, set_v}
 use base.Logic.{SProp, ent, sep, wand, all, ex, emp, id⊢, via, comm∗, mono∗, mono_l, mono_r, fst∗, snd∗, wand_i, all_e, apply∗, guard_i, guard_e, ex_i, ex_e}
 use base.Fml.{Share, fat}
@@ -103,6 +103,7 @@ IsStruct (vint w n) = ⊥
 IsStruct (vfloat f x) = ⊥
 IsStruct (vptr b o) = ⊥
 IsStruct (vstruct vs) = Unit {0}
+IsStruct (vcode c) = ⊥
 
 abbrev pub field_val : Val → ℕ → Val
 field_val vunit k = vunit
@@ -111,6 +112,7 @@ field_val (vint w n) k = vunit
 field_val (vfloat f x) k = vunit
 field_val (vptr b o) k = vunit
 field_val (vstruct vs) k = get_v vs k
+field_val (vcode c) k = vunit
 
 abbrev pub IsFound : Option (Ty × ℕ) → Type 0
 IsFound none = ⊥
@@ -131,6 +133,7 @@ with_field (vint w n) k u = vunit
 with_field (vfloat f x) k u = vunit
 with_field (vptr b o) k u = vunit
 with_field (vstruct vs) k u = vstruct (set_v vs k u)
+with_field (vcode c) k u = vunit
 
 module _ {M : Type 1} {𝓤 : Ura M} {𝓛 : Logic 𝓤} {K : Type 0} {i : Item 𝓤} {s : Share} {b o : ℕ} {back : Val → Item 𝓤} where
   field_part : K → (τ : Ty) (k : ℕ) (h : IsFound (field_of τ k)) (v : Val) → IsStruct v → Part K 𝓛 i s τ b o v back → Part K 𝓛 i s (what (field_of τ k) h).0 b (o + (what (field_of τ k) h).1) (field_val v k) (λ u. back (with_field v k u))
@@ -142,12 +145,16 @@ module _ {M : Type 1} {𝓤 : Ura M} {𝓛 : Logic 𝓤} {K : Type 0} {i : Item 
   field_part t (ty_array τ n) k h v st p = absurd h
   field_part t ty_unit k h v st p = absurd h
   field_part t (ty_enum ν τss) k h v st p = absurd h
-  field_part t (ty_named ν) k h v st p = absurd h
+  field_part t (ty_param ι) k h v st p = absurd h
+  field_part t (ty_const ι) k h v st p = absurd h
+  field_part t (ty_array_p τ ι) k h v st p = absurd h
+  field_part t (ty_named ν θ) k h v st p = absurd h
   field_part t (ty_struct ν τs) k h vunit st p = absurd st
   field_part t (ty_struct ν τs) k h (vbool y) st p = absurd st
   field_part t (ty_struct ν τs) k h (vint w n) st p = absurd st
   field_part t (ty_struct ν τs) k h (vfloat f x) st p = absurd st
   field_part t (ty_struct ν τs) k h (vptr c e) st p = absurd st
+  field_part t (ty_struct ν τs) k h (vcode c) st p = absurd st
   field_part t (ty_struct ν τs) k h (vstruct vs) st p = sub t k (found_is (field_of (ty_struct ν τs) k) h) p
 
 -- ---- a value that lies in memory. The record names what the entry is about, so that it is read off
@@ -210,23 +217,23 @@ module _ {M : Type 1} {𝓤 : Ura M} (𝓛 : Logic 𝓤) where
     typed x v k = (subst (λ (τs : List Ty). Typed τs (v ∷ [])) D.one ((D.lawful 𝓛).typed x (v ∷ []) k)).0
 
     pub part_known : (x : R.Denot) (b o : ℕ) → Lies R x b o ⊢ fact 𝓤 (Known D x)
-    part_known x b o = via 𝓤 (ex 𝓤 At) (part_out 𝓛 R D.one full_share x b o) (ex_e 𝓤 At (λ v. via 𝓤 (sem 𝓛 (R.own x (v ∷ []))) (snd∗ 𝓤 (H.at full_share τ b o v) (sem 𝓛 (R.own x (v ∷ []))))
-        (fact_use 𝓤 (Is R x (v ∷ [])) (shows 𝓛 R x (v ∷ [])) (λ p. fact_i 𝓤 (Known D x) (sem 𝓛 (R.own x (v ∷ []))) (subst (Is R x) (D.tells x (v ∷ []) p) p)))))
+    part_known x b o = via 𝓤 (ex 𝓤 At) (part_out 𝓛 R D.one full_share x b o) (ex_e 𝓤 At (λ v. via 𝓤 (sem 𝓛 (R.own_val x (v ∷ []))) (snd∗ 𝓤 (H.at full_share τ b o v) (sem 𝓛 (R.own_val x (v ∷ []))))
+        (fact_use 𝓤 (Is R x (v ∷ [])) (shows 𝓛 R x (v ∷ [])) (λ p. fact_i 𝓤 (Known D x) (sem 𝓛 (R.own_val x (v ∷ []))) (subst (Is R x) (D.tells x (v ∷ []) p) p)))))
       where
         At : Val → SProp 𝓤
-        At v = sep 𝓤 (H.at full_share τ b o v) (sem 𝓛 (R.own x (v ∷ [])))
+        At v = sep 𝓤 (H.at full_share τ b o v) (sem 𝓛 (R.own_val x (v ∷ [])))
 
     -- its one machine value lies there, and the value's type makes what is owned
     pub cell_out : (x : R.Denot) (b o : ℕ) → Lies R x b o ⊢ H.at full_share τ b o (D.val x)
-    cell_out x b o = via 𝓤 (ex 𝓤 At) (part_out 𝓛 R D.one full_share x b o) (ex_e 𝓤 At (λ v. fact_use 𝓤 (Is R x (v ∷ [])) (via 𝓤 (sem 𝓛 (R.own x (v ∷ []))) (snd∗ 𝓤 (H.at full_share τ b o v) (sem 𝓛 (R.own x (v ∷ [])))) (shows 𝓛 R x (v ∷ [])))
-        (λ p. via 𝓤 (H.at full_share τ b o v) (fst∗ 𝓤 (H.at full_share τ b o v) (sem 𝓛 (R.own x (v ∷ [])))) (subst (λ (u : Val). H.at full_share τ b o v ⊢ H.at full_share τ b o u) (ap only (D.tells x (v ∷ []) p)) (id⊢ 𝓤 (H.at full_share τ b o v))))))
+    cell_out x b o = via 𝓤 (ex 𝓤 At) (part_out 𝓛 R D.one full_share x b o) (ex_e 𝓤 At (λ v. fact_use 𝓤 (Is R x (v ∷ [])) (via 𝓤 (sem 𝓛 (R.own_val x (v ∷ []))) (snd∗ 𝓤 (H.at full_share τ b o v) (sem 𝓛 (R.own_val x (v ∷ [])))) (shows 𝓛 R x (v ∷ [])))
+        (λ p. via 𝓤 (H.at full_share τ b o v) (fst∗ 𝓤 (H.at full_share τ b o v) (sem 𝓛 (R.own_val x (v ∷ [])))) (subst (λ (u : Val). H.at full_share τ b o v ⊢ H.at full_share τ b o u) (ap only (D.tells x (v ∷ []) p)) (id⊢ 𝓤 (H.at full_share τ b o v))))))
       where
         At : Val → SProp 𝓤
-        At v = sep 𝓤 (H.at full_share τ b o v) (sem 𝓛 (R.own x (v ∷ [])))
+        At v = sep 𝓤 (H.at full_share τ b o v) (sem 𝓛 (R.own_val x (v ∷ [])))
 
     pub cell_in : (x : R.Denot) → Known D x → (b o : ℕ) → H.at full_share τ b o (D.val x) ⊢ Lies R x b o
-    cell_in x k b o = via 𝓤 (sep 𝓤 (H.at full_share τ b o (D.val x)) (sem 𝓛 (R.own x (D.val x ∷ []))))
-        (qed 𝓛 (‵ (fat full_share τ b o (D.val x)) ∷ []) ∵ use0 𝓛 (‵ (R.own x (D.val x ∷ []))) (D.makes 𝓛 x (D.val x ∷ []) k) $ move ! (1 ∷ 0 ∷ []) $ done !)
+    cell_in x k b o = via 𝓤 (sep 𝓤 (H.at full_share τ b o (D.val x)) (sem 𝓛 (R.own_val x (D.val x ∷ []))))
+        (qed 𝓛 (‵ (fat full_share τ b o (D.val x)) ∷ []) ∵ use0 𝓛 (‵ (R.own_val x (D.val x ∷ []))) (D.makes 𝓛 x (D.val x ∷ []) k) $ move ! (1 ∷ 0 ∷ []) $ done !)
         (part_in 𝓛 R D.one full_share x b o (D.val x))
 
   -- the cell of a field is room, and any known value of the field's type in it is the record with that value there
@@ -259,7 +266,7 @@ module _ {M : Type 1} {𝓤 : Ura M} (𝓛 : Logic 𝓤) where
       Back z = wand 𝓤 (Lies P z b (o + d)) (Lies R (f.put x z) b o)
 
 -- ---- a call that turns the entry i into j and returns r
-pub record Turns {M : Type 1} {𝓤 : Ura M} (𝓛 : Logic 𝓤) (C : Calls 𝓤 𝓛.H) (f : Name) (vs : List Val) (i j : Item 𝓤) (S : RattleType) (r : S.Denot) : Type 1 where
+pub record Turns {M : Type 1} {𝓤 : Ura M} (𝓛 : Logic 𝓤) (C : Calls 𝓤 𝓛.H) (f : Callee) (vs : List Val) (i j : Item 𝓤) (S : RattleType) (r : S.Denot) : Type 1 where
   pub does : ent 𝓤 (mean 𝓛 i) (𝓛.H.⇛ (C f vs (λ v. 𝓛.H.⇛ (sep 𝓤 (mean 𝓛 j) (fact 𝓤 (Is S r (v ∷ [])))))))
 
 -- what is to be shown where a part ends that `rest` follows
@@ -431,7 +438,7 @@ module _ {M : Type 1} {𝓤 : Ura M} {𝓛 : Logic 𝓤} {K : Type 0} {Γ : List
           → Step K 𝓛 (frame E ss ∷ lies R y b o ∷ Γ) (prop (post 𝓤 H q next)) (frame E ss ∷ lies R x b o ∷ Γ) (runs C Λ E (assign (place p (deref τ ∷ [])) rv) q)
       replaces_end t D y is rv has at_p e = assigns_last t rv (behind t has at_p (stop t)) (into_all t D y is e)
 
-      pub calls_end : K → FmC 𝓤 H 𝓛.laws C → {f : Name} {xs : List Operand} {d : ℕ} {vs : List Val} {i j : Item 𝓤} {S : RattleType} (D : Data S) (r : S.Denot) → Turns 𝓛 C f vs i j S r → ((z : Item 𝓤) → Opds K 𝓛 (frame E ss ∷ z ∷ Γ) E xs vs)
+      pub calls_end : K → FmC 𝓤 H 𝓛.laws C → {f : Callee} {xs : List Operand} {d : ℕ} {vs : List Val} {i j : Item 𝓤} {S : RattleType} (D : Data S) (r : S.Denot) → Turns 𝓛 C f vs i j S r → ((z : Item 𝓤) → Opds K 𝓛 (frame E ss ∷ z ∷ Γ) E xs vs)
           → Has E d → (at E d).0 ≡ lone S.mir → (Known D r → Seq K 𝓛 (frame E (fill ss d (D.val r)) ∷ j ∷ Γ) (prop (post 𝓤 H q next))) → Seq K 𝓛 (frame E ss ∷ i ∷ Γ) (runs C Λ E (call f xs (place d [])) q)
       calls_end t fm {f} {xs} {d} {vs} {i} {j} {S} D r turns os has e k =
           move t (1 ∷ []) $ use1 𝓛 (later Called) turns.does $ await t tt $ Calls-last t fm (λ v. later (j ⊛ raw (fact 𝓤 (Is S r (v ∷ []))))) (record {
@@ -445,7 +452,7 @@ module _ {M : Type 1} {𝓤 : Ura M} {𝓛 : Logic 𝓤} {K : Type 0} {Γ : List
           Called = raw (C f vs (λ v. mean 𝓛 (later (j ⊛ raw (fact 𝓤 (Is S r (v ∷ [])))))))
 
     module _ {C : Calls 𝓤 H} {Λ : Loops 𝓤 H} {q : Post 𝓤 H} where
-      pub calls : K → FmC 𝓤 H 𝓛.laws C → {f : Name} {xs : List Operand} {d : ℕ} {rest : Body} {vs : List Val} {i j : Item 𝓤} {S : RattleType} (D : Data S) (r : S.Denot) → Turns 𝓛 C f vs i j S r → ((z : Item 𝓤) → Opds K 𝓛 (frame E ss ∷ z ∷ Γ) E xs vs)
+      pub calls : K → FmC 𝓤 H 𝓛.laws C → {f : Callee} {xs : List Operand} {d : ℕ} {rest : Body} {vs : List Val} {i j : Item 𝓤} {S : RattleType} (D : Data S) (r : S.Denot) → Turns 𝓛 C f vs i j S r → ((z : Item 𝓤) → Opds K 𝓛 (frame E ss ∷ z ∷ Γ) E xs vs)
           → Has E d → (at E d).0 ≡ lone S.mir → (Known D r → Seq K 𝓛 (frame E (fill ss d (D.val r)) ∷ j ∷ Γ) (runs C Λ E rest q)) → Seq K 𝓛 (frame E ss ∷ i ∷ Γ) (runs C Λ E (seq (call f xs (place d [])) rest) q)
       calls t fm {rest = rest} D r turns os has e k = first t $ calls_end t fm D r turns os has e (λ is. exec t C Λ E rest q $ k is)
 

@@ -1,14 +1,14 @@
 -- For proofs alone: a function whose first parameter is a `&mut R` meets its contract, from a walk of its body.
 --     borrowed     what is kept of the borrow while it is open
 --     meets        the walk begins with [the locals; what lies behind the borrow; borrowed], and with what is required
---     meets-with, leaves-with      the same with any other parameters and any result: what they own is in hand at first, and is handed back
+--     meets_with, leaves_with      the same with any other parameters and any result: what they own is in hand at first, and is handed back
 --     leaves       where the code returns: the borrow is closed at what lies behind it, and that is what is ensured
 use mathlib.Core.Path.{◌≡◌, sym, subst}
 use Prim.Native.Nat.{ℕ, zero, suc}
 use mathlib.Core.Option.{none, some as found}
 use mathlib.Core.List.{List, [], ◌∷◌, map}
 use seplogic.Ra.Ura.{Ura}
-use seplogic.Ra.TreeShare.{full_share}
+use base.Fraction.{full_share}
 use lib.Dec.{T}
 use mir.Syntax.{Ty, Fn, named, return}
 use mir.Val.{Val, WT, has_ty, vptr}
@@ -135,20 +135,20 @@ module _ {M : Type 1} {𝓤 : Ura M} (𝓛 : Logic 𝓤) (n : ℕ) (R : RattleTy
 
     -- what is left of the tokens and the parameters, and the result
     abbrev pub Left : (r : (s.row y.κs).Denot) → Fins y.κs ps ks y.a → Val → SProp 𝓤
-    Left r ws v = sep 𝓤 (toks 𝓛 n y.κs.1 y.qs.1) (sep 𝓤 (sem 𝓛 (has_of y.κs ps ks hs' y.a ws (others y))) (sem 𝓛 ((s.row y.κs).own r (v ∷ []))))
+    Left r ws v = sep 𝓤 (toks 𝓛 n y.κs.1 y.qs.1) (sep 𝓤 (sem 𝓛 (has_of y.κs ps ks hs' y.a ws (others y))) (sem 𝓛 ((s.row y.κs).own_val r (v ∷ []))))
 
     pub leaves_with : {E : Env 𝓤 H} {ss : Slots} {C : Calls 𝓤 H} {Λ : Loops 𝓤 H} {q : Posts 𝓤 H} {D : Item 𝓤} (z : R.Denot) (v : Val) (r : (s.row y.κs).Denot) (ws : Fins y.κs ps ks y.a) → fits_of y.κs ps ks hs' y.a ws → post 𝓤 H q returnsᴼ ≡ at_return 𝓤 H E PostWith returnsᴼ → Has E zero → slot ss zero ≡ found v
         → ent 𝓤 (mean 𝓛 D) (Left r ws v) → ent 𝓤 (emp 𝓤) ((c y.κs (arg y)).ensures g r (at_exit T' y.κs (arg y) (z, ws)))
         → Sq 𝓛 (frame E ss ∷ lies R z y.b y.o ∷ borrowed y.κs.0 y.qs.0 R y.γ y.b y.o y.x ∷ D ∷ []) (runs C Λ E return q)
-    leaves_with z v r ws fits end h holds left e =
+    leaves_with z v r ws ok end h holds left e =
         move ! (1 ∷ []) $ use1 𝓛 (‵ (part_at R full_share z y.b y.o)) (unsaid 𝓛 R z y.b y.o) $ move ! (2 ∷ []) $ learn ! (λ _. split3 ! $ move ! (3 ∷ []) $ close_ref ! tt (mem R) z {b = y.b} {o = y.o} $
         move ! (3 ∷ []) $ ends ! PostWith end h holds $ use1 𝓛 (‵ (fres y.γ (R.coded.code z))) (𝓛.names.obs-res y.γ (R.coded.code z)) $
         -- [the record's last value; the borrow; the token; what is left]
-        suffices ! _ (ends_at 𝓛 T' hs c bound v r (z, ws) (tt, fits)) $ move ! (3 ∷ []) $
-        use1 𝓛 (raw (toks 𝓛 n y.κs.1 y.qs.1) ⊛ (‵ (has_of y.κs ps ks hs' y.a ws (others y)) ⊛ ‵ ((s.row y.κs).own r (v ∷ [])))) left $ split3 ! $
-        -- [the other tokens; what is had of the others; the result; the record's last value; the borrow; the token]
-        move ! (3 ∷ 1 ∷ []) $ fjoin ! $ move ! (2 ∷ []) $ move ! (1 ∷ 0 ∷ []) $ join ! $ move ! (3 ∷ 1 ∷ []) $ join ! $ join ! $
-        use0 𝓛 (raw ((c y.κs (arg y)).ensures g r (at_exit T' y.κs (arg y) (z, ws)))) e $ keep ! (1 ∷ 0 ∷ []) $ done !)
+        fjoin ! $ suffices ! _ (ends_at 𝓛 T' hs c bound v r (z, ws) (tt, ok)) $ move ! (2 ∷ []) $
+        use1 𝓛 (raw (toks 𝓛 n y.κs.1 y.qs.1) ⊛ (‵ (has_of y.κs ps ks hs' y.a ws (others y)) ⊛ ‵ ((s.row y.κs).own_val r (v ∷ [])))) left $ split3 ! $
+        -- [the other tokens; what is had of the others; the result; the record's last value and the borrow; the token]
+        move ! (3 ∷ 1 ∷ []) $ fjoin ! $ move ! (2 ∷ []) $ move ! (1 ∷ 0 ∷ []) $ join ! $ move ! (2 ∷ 1 ∷ []) $ join ! $ join ! $
+        use0 𝓛 (raw ((c y.κs (arg y)).ensures g r (at_exit T' y.κs (arg y) (z, ws)))) e $ move ! (1 ∷ 0 ∷ []) $ done !)
 
   module _ (gs' : AllGo 𝓛 (suc n) ps ks hs') (tl : (κs : Lfts (suc n)) → Tellss (types_at ps κs) (Ises (types_at ps κs)) (sp κs)) (lw : (κs : Lfts (suc n)) → Lawfuls 𝓛 (types_at ps κs))
       (φ : CallWith → Type 0) (asks : (y : CallWith) (g : (c y.κs (arg y)).ghost) → ent 𝓤 ((c y.κs (arg y)).requires g) (fact 𝓤 (φ y))) (𝓣 : Tables 𝓤 H) (fn : Fn)
@@ -202,7 +202,7 @@ module _ {M : Type 1} {𝓤 : Ura M} (𝓛 : Logic 𝓤) (R : RattleType) {S : R
         → ent 𝓤 (emp 𝓤) ((c y.κs (arg₀ y)).ensures g r (at_exit (lending R ps S ks) y.κs (arg₀ y) (z, last y.κs y.a))) → Sq 𝓛 (frame E ss ∷ now_lent z) (runs C Λ E return q)
     leaves z r end h holds is e =
         nothing ! $ move ! (1 ∷ 2 ∷ 3 ∷ 0 ∷ []) $ leaves_with 𝓛 0 R ps (plain (λ _. S)) ks c (drops ps ks) spelled y g {D = ‵ ftrue} z (D.val r) r (last y.κs y.a) (fits y.κs ps ks y.a (last y.κs y.a)) end h holds
-        (qed 𝓛 (‵ ftrue ∷ []) ∵ use0 𝓛 (‵ (S.own r (D.val r ∷ []))) (D.makes 𝓛 r (D.val r ∷ []) is) $ use0 𝓛 (‵ (has_of y.κs ps ks (drops ps ks) y.a (last y.κs y.a) Vss)) (has 𝓛 y.κs ps ks y.a (last y.κs y.a) Vss) $ move ! (2 ∷ 0 ∷ 1 ∷ []) $ done !) e
+        (qed 𝓛 (‵ ftrue ∷ []) ∵ use0 𝓛 (‵ (S.own_val r (D.val r ∷ []))) (D.makes 𝓛 r (D.val r ∷ []) is) $ use0 𝓛 (‵ (has_of y.κs ps ks (drops ps ks) y.a (last y.κs y.a) Vss)) (has 𝓛 y.κs ps ks y.a (last y.κs y.a) Vss) $ move ! (2 ∷ 0 ∷ 1 ∷ []) $ done !) e
       where
         Vss : Valss (types_at ps y.κs)
         Vss = valss (types_at ps y.κs) (spelled y.κs) y.a
