@@ -1,6 +1,6 @@
 -- Laws: what follows from the definitions: registers told apart, what setting none comes to, and that what is stored stays
 -- within its bounds.
-use Rattle.std.specs.Prelude.{ℕ, ◌<◌, ◌≤◌, ◌≡◌, true, false, List, [], ◌∷◌, get_or}
+use Rattle.std.specs.Prelude.{ℕ, ◌<◌, ◌≡◌, true, false, List, [], ◌∷◌, get_or}
 use Rattle.std.proofs.Common.{arith, sym, ap, ◌∙◌, eqb-true}
 use Rattle.std.proofs.Math.Path.{refl}
 use Rattle.bits.specs.Choice.{pick, pick_by, apart}

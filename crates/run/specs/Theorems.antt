@@ -1,6 +1,6 @@
 -- Laws: a run ends, its answers are counted from 0, an input too long is only refused, and buffers filled one after the other
 -- hold its text.
-use Prim.Native.Nat.{ℕ, zero, suc, ◌+◌, ◌-◌, ◌/◌, ◌<◌, ◌≤◌}
+use Prim.Native.Nat.{ℕ, zero, suc, ◌+◌, ◌/◌, ◌<◌, ◌≤◌}
 use native.Mathlib.Omega.{arith}
 use Rattle.std.specs.Prelude.{◌≡◌, true, false, length, take}
 use Rattle.std.proofs.Math.Path.{refl, sym, ap}

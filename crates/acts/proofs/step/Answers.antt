@@ -1,5 +1,4 @@
 use Rattle.acts.specs.Laws.{act_in}
-use borrow.Author.Rules.{rules}
 use Rattle.acts.specs.Step.{step_at}
 use Rattle.acts.proofs.step.Goals as goal
 

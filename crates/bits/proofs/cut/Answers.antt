@@ -1,6 +1,5 @@
 use Prim.Native.Nat.{◌<◌}
 use native.Mathlib.Omega.{arith}
-use borrow.Author.Rules.{rules}
 use Rattle.bits.specs.Laws.{part_in, cut_part}
 use Rattle.bits.proofs.cut.Goals as goal
 

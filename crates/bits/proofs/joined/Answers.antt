@@ -1,6 +1,5 @@
 use Rattle.bits.specs.Laws.{or_joined, joined_past}
 use native.Mathlib.Omega.{arith}
-use borrow.Author.Rules.{rules}
 use Rattle.bits.proofs.joined.Goals as goal
 
 pub returns-then-place-ge8 : goal.returns-then-place-ge8

@@ -1,6 +1,5 @@
 use Rattle.bits.specs.Laws.{masked_part, wide_part, no_part_past}
 use native.Mathlib.Omega.{arith}
-use borrow.Author.Rules.{rules}
 use Rattle.bits.proofs.part.Goals as goal
 
 pub returns-then-place-ge8 : goal.returns-then-place-ge8

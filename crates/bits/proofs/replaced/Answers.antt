@@ -1,6 +1,5 @@
 use Rattle.bits.specs.Laws.{replaced_joined, replaced_to_the_end}
 use native.Mathlib.Omega.{arith}
-use borrow.Author.Rules.{rules}
 use Rattle.bits.proofs.replaced.Goals as goal
 
 pub returns-then-place-ge8 : goal.returns-then-place-ge8

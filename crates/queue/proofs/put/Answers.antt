@@ -1,4 +1,3 @@
-use borrow.Author.Rules.{rules}
 use Rattle.queue.proofs.put.Goals as goal
 
 pub returns-then-moved : goal.returns-then-moved

@@ -1,4 +1,3 @@
-use mathlib.Core.Path.{refl}
 use Rattle.queue.specs.Queue.{after_of}
 use Rattle.queue.proofs.settle.Goals as goal
 

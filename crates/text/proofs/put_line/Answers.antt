@@ -1,6 +1,4 @@
 use native.Mathlib.Omega.{arith}
-use mathlib.Core.Path.{◌∙◌}
-use lib.ListN.{length-set}
 use Rattle.text.specs.Laws.{line_length}
 use Rattle.text.proofs.Lines.{line_stored}
 use Rattle.text.proofs.put_line.Goals as goal

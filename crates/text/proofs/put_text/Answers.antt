@@ -1,9 +1,7 @@
 -- The loop's invariant: the bytes before `i` are stored from `at` on. The measure is what is left of the text.
-use Prim.Native.Nat.{◌+◌, ◌-◌, ◌≤◌}
 use native.Mathlib.Omega.{arith}
-use mathlib.Core.Path.{◌≡◌, refl}
-use lib.ListN.{length, take, length-set}
-use lib.Seq.{sets}
+use mathlib.Core.Path.{refl}
+use lib.ListN.{length-set}
 use Rattle.text.proofs.Stores.{stored_more, stored_all}
 use Rattle.text.proofs.put_text.Goals as goal
 
@@ -26,13 +24,12 @@ pub loop-i-smaller : goal.loop-i-smaller
 loop-i-smaller c = omega arith
 
 pub loop-i-preserved : goal.loop-i-preserved
-loop-i-preserved c =
-    (
-      omega arith,
-      omega arith,
-      simp length-set c.loop-i.invariant.2,
-      stored_more _ _ _ _ _ _ c.loop-i.invariant.0 c.loop-i.invariant.3 c.loop-i-test.true,
-    )
+loop-i-preserved c = (
+  omega arith,
+  omega arith,
+  simp length-set c.loop-i.invariant.2,
+  stored_more _ _ _ _ _ _ c.loop-i.invariant.0 c.loop-i.invariant.3 c.loop-i-test.true,
+)
 
 pub returns : goal.returns
 returns c = record { value = omega arith; out_after = stored_all _ _ _ _ _ c.loop-i.invariant.3 c.loop-i-test.false }

@@ -1,6 +1,5 @@
 use Rattle.writer.proofs.Table.{table_right}
 use borrow.Author.Tests.{lt-ltb, le-ltb}
-use borrow.Author.Rules.{rules}
 use Rattle.writer.specs.Writing.{padded, whole_of}
 use Rattle.writer.proofs.event_bytes.Goals as goal
 

@@ -4,7 +4,6 @@ use mathlib.Core.Path.{◌≡◌, refl, ap}
 use mathlib.Core.List.{List, ◌++◌}
 use lib.ListN.{length, take, drop}
 use lib.Seq.{take-append_seam}
-use borrow.Author.Rules.{rules}
 use borrow.Author.Tests.{le-leb, lt-leb}
 use Rattle.event.specs.declared.events.Made.{Made}
 use Rattle.event.specs.declared.events.Made.TheVariants as made

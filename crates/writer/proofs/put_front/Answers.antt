@@ -1,5 +1,5 @@
 -- The loop's invariant: the bytes before `i` are put. The measure is what is left of the count.
-use Prim.Native.Nat.{ℕ, suc, ◌+◌, ◌-◌, ◌<◌, ◌≤◌}
+use Prim.Native.Nat.{ℕ, ◌+◌, ◌<◌, ◌≤◌}
 use native.Mathlib.Nat.{zero-add}
 use native.Mathlib.Numerals.{add-one}
 use native.Mathlib.Omega.{arith}
@@ -33,12 +33,11 @@ pub loop-i-smaller : goal.loop-i-smaller
 loop-i-smaller c = omega arith
 
 pub loop-i-preserved : goal.loop-i-preserved
-loop-i-preserved c =
-    (
-      omega arith,
-      simp length-set c.loop-i.invariant.1,
-      one_more _ _ _ _ c.loop-i.invariant.2 (omega arith) (omega arith),
-    )
+loop-i-preserved c = (
+  omega arith,
+  simp length-set c.loop-i.invariant.1,
+  one_more _ _ _ _ c.loop-i.invariant.2 (omega arith) (omega arith),
+)
 
 pub returns : goal.returns
 returns c = whole _ _ _ _ _ c.loop-i.invariant.2 c.loop-i.invariant.0 c.loop-i-test.false

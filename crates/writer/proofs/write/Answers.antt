@@ -1,6 +1,5 @@
 use mathlib.Core.Path.{sym, ◌∙◌}
 use Rattle.event.specs.Laws.{made_in_range}
-use borrow.Author.Rules.{rules}
 use Rattle.writer.specs.Writing.{written_of}
 use Rattle.writer.proofs.write.Goals as goal
 

@@ -1,4 +1,3 @@
-use borrow.Author.Rules.{rules}
 use Rattle.acts.specs.Acts.{act_of}
 use Rattle.acts.proofs.kinds.act.Goals as goal
 

@@ -1,5 +1,4 @@
 use Rattle.levels.specs.Laws.{room_in}
-use borrow.Author.Rules.{rules}
 use Rattle.queue.specs.Queue.{moved_by}
 use Rattle.queue.specs.Laws.{moved_pick}
 use Rattle.acts.specs.Touches.{setting_by, receive_change, transmit_change, resets_by}

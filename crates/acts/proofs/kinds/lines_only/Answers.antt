@@ -1,4 +1,3 @@
-use borrow.Author.Rules.{rules}
 use Rattle.acts.specs.Acts.{lines_act}
 use Rattle.acts.proofs.kinds.lines_only.Goals as goal
 

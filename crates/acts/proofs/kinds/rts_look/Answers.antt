@@ -1,4 +1,3 @@
-use borrow.Author.Rules.{rules}
 use Rattle.queue.specs.Queue.{moved_by}
 use Rattle.acts.specs.Touches.{setting_by, receive_change, transmit_change, resets_by}
 use Rattle.acts.specs.Acts.{lines_act, act_with, look_act}

@@ -1,4 +1,3 @@
-use borrow.Author.Rules.{rules}
 use Rattle.acts.specs.Touches.{sent_by}
 use Rattle.queue.specs.Queue.{moved_by}
 use Rattle.queue.specs.Laws.{moved_pick}

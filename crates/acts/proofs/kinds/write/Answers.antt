@@ -1,4 +1,3 @@
-use borrow.Author.Rules.{rules}
 use Rattle.queue.specs.Queue.{moved_by}
 use Rattle.queue.specs.Laws.{moved_pick}
 use Rattle.acts.specs.Touches.{setting_by, receive_change, transmit_change, resets_by}

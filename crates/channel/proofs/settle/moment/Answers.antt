@@ -1,4 +1,3 @@
-use borrow.Author.Rules.{rules}
 use Rattle.channel.specs.Settle.{moment_of}
 use Rattle.channel.proofs.settle.moment.Goals as goal
 

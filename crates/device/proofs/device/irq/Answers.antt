@@ -1,4 +1,3 @@
-use borrow.Author.Rules.{rules}
 use Rattle.device.specs.Device.{irq_of}
 use Rattle.device.proofs.device.irq.Goals as goal
 

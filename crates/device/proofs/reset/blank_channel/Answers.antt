@@ -1,4 +1,3 @@
-use borrow.Author.Rules.{rules}
 use Rattle.device.specs.Reset.{blank_channel}
 use Rattle.device.proofs.reset.blank_channel.Goals as goal
 

@@ -1,6 +1,5 @@
 use native.Mathlib.Omega.{arith}
 use Rattle.queue.specs.Queue.{clears_all}
-use borrow.Author.Rules.{rules}
 use Rattle.device.specs.Reset.{reset_of}
 use Rattle.device.proofs.reset.reset_channel.Goals as goal
 

@@ -1,5 +1,4 @@
 use borrow.Author.Tests.{lt-ltb, le-ltb}
-use borrow.Author.Rules.{rules}
 use Rattle.event.proofs.events.arrival.Goals as goal
 
 pub returns-then-byte-gt255 : goal.returns-then-byte-gt255

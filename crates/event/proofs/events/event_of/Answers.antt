@@ -1,5 +1,4 @@
 use borrow.Author.Tests.{ne_eqb, lt-ltb, le-ltb}
-use borrow.Author.Rules.{rules}
 use Rattle.event.specs.Events.{event_of}
 use Rattle.event.proofs.events.event_of.Goals as goal
 

@@ -1,5 +1,4 @@
 use borrow.Author.Tests.{ne_eqb}
-use borrow.Author.Rules.{rules}
 use Rattle.event.specs.Events.{on_channel}
 use Rattle.event.proofs.events.on_channel.Goals as goal
 

@@ -1,5 +1,4 @@
 use borrow.Author.Tests.{lt-ltb, le-ltb}
-use borrow.Author.Rules.{rules}
 use Rattle.event.proofs.events.write.Goals as goal
 
 pub returns-then-address-gt15 : goal.returns-then-address-gt15

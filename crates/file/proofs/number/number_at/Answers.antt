@@ -1,5 +1,4 @@
 use borrow.Author.Tests.{ne_eqb, lt-ltb, le-ltb, le-leb, lt-leb}
-use borrow.Author.Rules.{rules}
 use Rattle.file.specs.Numbers.{number_at, second_at}
 use Rattle.file.proofs.number.number_at.Goals as goal
 

@@ -1,4 +1,3 @@
-use borrow.Author.Rules.{rules}
 use Rattle.file.specs.Numbers.{operand_at}
 use Rattle.file.proofs.number.operand_at.Goals as goal
 

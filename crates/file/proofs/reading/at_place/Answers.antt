@@ -1,4 +1,3 @@
-use borrow.Author.Rules.{rules}
 use Rattle.file.proofs.reading.at_place.Goals as goal
 
 pub returns-in-Event : goal.returns-in-Event

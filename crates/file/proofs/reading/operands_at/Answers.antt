@@ -1,4 +1,3 @@
-use borrow.Author.Rules.{rules}
 use Rattle.file.specs.Reading.{operands_at}
 use Rattle.file.proofs.reading.operands_at.Goals as goal
 

@@ -1,5 +1,4 @@
 use borrow.Author.Tests.{lt-ltb, le-ltb, le-leb, lt-leb}
-use borrow.Author.Rules.{rules}
 use Rattle.file.specs.Reading.{read_at}
 use Rattle.file.proofs.reading.read_at.Goals as goal
 

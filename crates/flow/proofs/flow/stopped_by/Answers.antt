@@ -1,4 +1,3 @@
-use borrow.Author.Rules.{rules}
 use Rattle.flow.specs.Flow.{stopped_by}
 use Rattle.flow.proofs.flow.stopped_by.Goals as goal
 

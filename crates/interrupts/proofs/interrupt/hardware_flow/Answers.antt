@@ -1,4 +1,3 @@
-use borrow.Author.Rules.{rules}
 use Rattle.interrupts.specs.Interrupts.{flow_pending}
 use Rattle.interrupts.proofs.interrupt.hardware_flow.Goals as goal
 

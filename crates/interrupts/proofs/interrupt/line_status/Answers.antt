@@ -1,4 +1,3 @@
-use borrow.Author.Rules.{rules}
 use Rattle.interrupts.specs.Interrupts.{line_status_pending}
 use Rattle.interrupts.proofs.interrupt.line_status.Goals as goal
 

@@ -1,4 +1,3 @@
-use borrow.Author.Rules.{rules}
 use Rattle.interrupts.specs.Interrupts.{modem_pending}
 use Rattle.interrupts.proofs.interrupt.modem_status.Goals as goal
 

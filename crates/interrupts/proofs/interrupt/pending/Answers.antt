@@ -1,4 +1,3 @@
-use borrow.Author.Rules.{rules}
 use Rattle.interrupts.specs.Interrupts.{pending_of}
 use Rattle.interrupts.proofs.interrupt.pending.Goals as goal
 

@@ -1,4 +1,3 @@
-use borrow.Author.Rules.{rules}
 use Rattle.interrupts.specs.Interrupts.{receive_pending}
 use Rattle.interrupts.proofs.interrupt.receive.Goals as goal
 

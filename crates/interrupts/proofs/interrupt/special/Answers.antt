@@ -1,4 +1,3 @@
-use borrow.Author.Rules.{rules}
 use Rattle.interrupts.specs.Interrupts.{special_pending}
 use Rattle.interrupts.proofs.interrupt.special.Goals as goal
 

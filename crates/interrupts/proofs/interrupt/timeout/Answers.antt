@@ -1,4 +1,3 @@
-use borrow.Author.Rules.{rules}
 use Rattle.interrupts.specs.Interrupts.{timeout_pending}
 use Rattle.interrupts.proofs.interrupt.timeout.Goals as goal
 

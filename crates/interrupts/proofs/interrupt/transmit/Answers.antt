@@ -1,4 +1,3 @@
-use borrow.Author.Rules.{rules}
 use Rattle.interrupts.specs.Interrupts.{transmit_pending}
 use Rattle.interrupts.proofs.interrupt.transmit.Goals as goal
 

@@ -1,4 +1,3 @@
-use borrow.Author.Rules.{rules}
 use Rattle.interrupts.specs.Interrupts.{trigger_level}
 use Rattle.interrupts.proofs.interrupt.trigger_level.Goals as goal
 

@@ -12,11 +12,10 @@ settle-requires-2 c = rw c.step-step.ensures (step_in c.args.lent.now c.requires
 
 pub returns : goal.returns
 unfolding gave_at
-returns c =
-    (
-      rw c.step-step.ensures,
-      elim c.if-step.branch [
-      | then-step w ↦ all_stored _ _ _ _ _ _ c.step-step.ensures c.settle.ensures c.settle-2.ensures w.lent-is
-      | else-step w ↦ none_stored _ _ _ _ _ _ c.step-step.ensures c.settle.ensures c.settle-2.ensures w.if-step.false w.lent-is
-      ],
-    )
+returns c = (
+  rw c.step-step.ensures,
+  elim c.if-step.branch [
+    | then-step w ↦ all_stored _ _ _ _ _ _ c.step-step.ensures c.settle.ensures c.settle-2.ensures w.lent-is
+    | else-step w ↦ none_stored _ _ _ _ _ _ c.step-step.ensures c.settle.ensures c.settle-2.ensures w.if-step.false w.lent-is
+  ],
+)

@@ -1,4 +1,3 @@
-use borrow.Author.Rules.{rules}
 use Rattle.lent.specs.Way.{gave_aside}
 use Rattle.lent.proofs.way.gave_aside.Goals as goal
 

@@ -1,4 +1,3 @@
-use borrow.Author.Rules.{rules}
 use Rattle.lent.specs.Way.{way_of}
 use Rattle.lent.proofs.way.way_of.Goals as goal
 

@@ -1,4 +1,3 @@
-use borrow.Author.Rules.{rules}
 use Rattle.levels.specs.Queues.{clears}
 use Rattle.levels.proofs.queues.clears.Goals as goal
 

@@ -1,4 +1,3 @@
-use borrow.Author.Rules.{rules}
 use Rattle.levels.specs.Queues.{fifo_changes}
 use Rattle.levels.proofs.queues.fifo_changes.Goals as goal
 

@@ -1,4 +1,3 @@
-use borrow.Author.Rules.{rules}
 use Rattle.levels.specs.Queues.{loads}
 use Rattle.levels.proofs.queues.loads.Goals as goal
 

@@ -1,4 +1,3 @@
-use borrow.Author.Rules.{rules}
 use Rattle.levels.specs.Queues.{room_of}
 use Rattle.levels.proofs.queues.room.Goals as goal
 

@@ -1,4 +1,3 @@
-use borrow.Author.Rules.{rules}
 use Rattle.levels.specs.Queues.{transmits}
 use Rattle.levels.proofs.queues.transmits.Goals as goal
 

@@ -1,7 +1,6 @@
 use Prim.Native.Nat.{◌<◌}
 use Rattle.bits.specs.Laws.{part_in}
 use native.Mathlib.Omega.{arith}
-use borrow.Author.Rules.{rules}
 use Rattle.levels.specs.Levels.{fours}
 use Rattle.levels.proofs.trigger.four_times.Goals as goal
 

@@ -1,6 +1,5 @@
 use Rattle.bits.specs.Laws.{part_in}
 use borrow.Author.Tests.{ne_eqb}
-use borrow.Author.Rules.{rules}
 use Rattle.levels.specs.Levels.{receive_level}
 use Rattle.levels.proofs.trigger.receive_level.Goals as goal
 

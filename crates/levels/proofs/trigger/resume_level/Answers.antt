@@ -1,6 +1,5 @@
 use Rattle.bits.specs.Laws.{part_in}
 use borrow.Author.Tests.{ne_eqb}
-use borrow.Author.Rules.{rules}
 use Rattle.levels.specs.Levels.{resume_level}
 use Rattle.levels.proofs.trigger.resume_level.Goals as goal
 

@@ -1,4 +1,3 @@
-use borrow.Author.Rules.{rules}
 use Rattle.lines.specs.Rts.{halt_reached}
 use Rattle.lines.proofs.rts.halts.Goals as goal
 

@@ -1,4 +1,3 @@
-use borrow.Author.Rules.{rules}
 use Rattle.lines.specs.Rts.{latch_after}
 use Rattle.lines.proofs.rts.latch_after.Goals as goal
 

@@ -1,4 +1,3 @@
-use borrow.Author.Rules.{rules}
 use Rattle.lines.specs.Rts.{latch_driven}
 use Rattle.lines.proofs.rts.latch_driven.Goals as goal
 

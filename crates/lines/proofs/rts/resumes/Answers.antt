@@ -1,4 +1,3 @@
-use borrow.Author.Rules.{rules}
 use Rattle.lines.specs.Rts.{resume_reached}
 use Rattle.lines.proofs.rts.resumes.Goals as goal
 

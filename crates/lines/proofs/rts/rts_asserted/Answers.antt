@@ -1,4 +1,3 @@
-use borrow.Author.Rules.{rules}
 use Rattle.lines.specs.Rts.{rts_of}
 use Rattle.lines.proofs.rts.rts_asserted.Goals as goal
 

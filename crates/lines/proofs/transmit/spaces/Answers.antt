@@ -1,5 +1,4 @@
 use mathlib.Core.Path.{refl}
-use borrow.Author.Rules.{rules}
 use Rattle.lines.specs.Transmit.{spaces_of}
 use Rattle.lines.proofs.transmit.spaces.Goals as goal
 

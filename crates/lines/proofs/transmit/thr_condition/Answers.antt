@@ -1,4 +1,3 @@
-use borrow.Author.Rules.{rules}
 use Rattle.lines.specs.Transmit.{thr_condition}
 use Rattle.lines.proofs.transmit.thr_condition.Goals as goal
 

@@ -1,6 +1,5 @@
 use Prim.Native.Nat.{◌≤◌}
 use native.Mathlib.Omega.{arith}
-use borrow.Author.Rules.{rules}
 use Rattle.bits.specs.Laws.{one_if_in}
 use Rattle.queue.specs.Queue.{adds_to, stays_as}
 use Rattle.queue.proofs.Queue.adds.Goals as goal

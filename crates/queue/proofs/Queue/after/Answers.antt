@@ -1,4 +1,3 @@
-use borrow.Author.Rules.{rules}
 use Rattle.queue.specs.Queue.{after_of}
 use Rattle.queue.proofs.Queue.after.Goals as goal
 

@@ -1,8 +1,6 @@
-use Prim.Native.Nat.{◌≤◌, ◌-◌}
 use native.Mathlib.Omega.{arith}
-use borrow.Author.Rules.{rules}
 use Rattle.queue.specs.Queue.{any_mark_of}
-use Rattle.queue.proofs.Search.{Left, left_start, left_found, left_again, left_none}
+use Rattle.queue.proofs.Search.{left_start, left_found, left_again, left_none}
 use Rattle.queue.proofs.Queue.any_mark.Goals as goal
 
 pub loop-i-init : goal.loop-i-init

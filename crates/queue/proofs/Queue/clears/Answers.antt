@@ -1,4 +1,3 @@
-use borrow.Author.Rules.{rules}
 use Rattle.queue.proofs.OneWay.{cleared_or_not}
 use Rattle.queue.proofs.Queue.clears.Goals as goal
 

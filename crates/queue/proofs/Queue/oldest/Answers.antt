@@ -1,5 +1,4 @@
 use lib.Dec.{eqb}
-use borrow.Author.Rules.{rules}
 use Rattle.queue.specs.Queue.{oldest_of}
 use Rattle.queue.proofs.OneWay.{oldest_or_none}
 use Rattle.queue.proofs.Queue.oldest.Goals as goal

@@ -1,4 +1,3 @@
-use borrow.Author.Rules.{rules}
 use Rattle.queue.specs.Queue.{stays_as}
 use Rattle.queue.proofs.Queue.stays.Goals as goal
 

@@ -1,6 +1,5 @@
 use Prim.Native.Nat.{◌≤◌}
 use native.Mathlib.Omega.{arith}
-use borrow.Author.Rules.{rules}
 use Rattle.bits.specs.Laws.{one_if_in}
 use Rattle.queue.proofs.OneWay.{some_to_take, taken_or_not}
 use Rattle.queue.proofs.Queue.takes.Goals as goal

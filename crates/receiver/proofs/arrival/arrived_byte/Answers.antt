@@ -1,4 +1,3 @@
-use borrow.Author.Rules.{rules}
 use Rattle.receiver.specs.Arrivals.{arrived_byte}
 use Rattle.receiver.proofs.arrival.arrived_byte.Goals as goal
 

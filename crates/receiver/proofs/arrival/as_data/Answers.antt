@@ -1,4 +1,3 @@
-use borrow.Author.Rules.{rules}
 use Rattle.receiver.specs.Arrivals.{as_data}
 use Rattle.receiver.proofs.arrival.as_data.Goals as goal
 

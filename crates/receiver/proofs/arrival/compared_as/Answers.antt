@@ -1,4 +1,3 @@
-use borrow.Author.Rules.{rules}
 use Rattle.receiver.specs.Arrivals.{compared_as}
 use Rattle.receiver.proofs.arrival.compared_as.Goals as goal
 

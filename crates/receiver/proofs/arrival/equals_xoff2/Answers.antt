@@ -1,4 +1,3 @@
-use borrow.Author.Rules.{rules}
 use Rattle.receiver.specs.Arrivals.{equals_xoff2}
 use Rattle.receiver.proofs.arrival.equals_xoff2.Goals as goal
 

@@ -1,4 +1,3 @@
-use borrow.Author.Rules.{rules}
 use Rattle.receiver.specs.Arrivals.{gate_plain}
 use Rattle.receiver.proofs.arrival.gate_plain.Goals as goal
 

@@ -1,4 +1,3 @@
-use borrow.Author.Rules.{rules}
 use Rattle.receiver.specs.Arrivals.{heard_address}
 use Rattle.receiver.proofs.arrival.heard_address.Goals as goal
 

@@ -1,4 +1,3 @@
-use borrow.Author.Rules.{rules}
 use Rattle.receiver.specs.Arrivals.{heard_of}
 use Rattle.receiver.proofs.arrival.heard_by.Goals as goal
 

@@ -1,4 +1,3 @@
-use borrow.Author.Rules.{rules}
 use Rattle.receiver.specs.Arrivals.{heard_plain}
 use Rattle.receiver.proofs.arrival.heard_plain.Goals as goal
 

@@ -1,4 +1,3 @@
-use borrow.Author.Rules.{rules}
 use Rattle.receiver.specs.Arrivals.{mode_of}
 use Rattle.receiver.proofs.arrival.mode_of.Goals as goal
 

@@ -1,4 +1,3 @@
-use borrow.Author.Rules.{rules}
 use Rattle.receiver.specs.Arrivals.{receiver_set}
 use Rattle.receiver.proofs.arrival.receiver_set.Goals as goal
 

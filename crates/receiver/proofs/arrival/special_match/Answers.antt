@@ -1,4 +1,3 @@
-use borrow.Author.Rules.{rules}
 use Rattle.receiver.specs.Arrivals.{special_match}
 use Rattle.receiver.proofs.arrival.special_match.Goals as goal
 

@@ -1,4 +1,3 @@
-use borrow.Author.Rules.{rules}
 use Rattle.receiver.specs.Arrivals.{unless_off}
 use Rattle.receiver.proofs.arrival.unless_off.Goals as goal
 

@@ -1,4 +1,3 @@
-use borrow.Author.Rules.{rules}
 use Rattle.receiver.specs.Line.{fate_number}
 use Rattle.receiver.proofs.line.fate.Goals as goal
 

@@ -1,4 +1,3 @@
-use borrow.Author.Rules.{rules}
 use Rattle.registers.specs.Pairs.{chooses_pair}
 use Rattle.registers.proofs.pair.chooses_pair.Goals as goal
 

@@ -1,4 +1,3 @@
-use borrow.Author.Rules.{rules}
 use Rattle.registers.specs.Writes.{efcr_written}
 use Rattle.registers.proofs.settings.efcr_written.Goals as goal
 

@@ -1,4 +1,3 @@
-use borrow.Author.Rules.{rules}
 use Rattle.registers.specs.Writes.{resets_device}
 use Rattle.registers.proofs.settings.resets_device.Goals as goal
 

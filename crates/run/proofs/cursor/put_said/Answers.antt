@@ -1,7 +1,6 @@
 use native.Mathlib.Omega.{arith}
 use mathlib.Core.Path.{refl}
 use Rattle.run.specs.Cursor.{text_said}
-use borrow.Author.Rules.{rules}
 use Rattle.run.proofs.cursor.put_said.Goals as goal
 
 pub put_answer-requires : goal.put_answer-requires

@@ -4,7 +4,6 @@ use lib.ListN.{length}
 use Rattle.text.specs.Text.{line_with}
 use Rattle.run.specs.Lines.{refused, line_of}
 use Rattle.run.specs.Laws.{okay_length, refused_length}
-use borrow.Author.Rules.{rules}
 use Rattle.run.proofs.line.put_answer.Goals as goal
 
 pub put_line-requires : goal.put_line-requires

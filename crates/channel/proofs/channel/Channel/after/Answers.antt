@@ -1,4 +1,3 @@
-use borrow.Author.Rules.{rules}
 use Rattle.channel.specs.Settle.{after_step}
 use Rattle.channel.proofs.channel.Channel.after.Goals as goal
 

@@ -1,5 +1,4 @@
 use Rattle.channel.specs.Laws.{mark_shown_in}
-use borrow.Author.Rules.{rules}
 use Rattle.channel.specs.Channel.{read_of}
 use Rattle.channel.proofs.channel.Channel.gives.Goals as goal
 

@@ -1,4 +1,3 @@
-use borrow.Author.Rules.{rules}
 use Rattle.channel.specs.Settle.{moment_at}
 use Rattle.channel.proofs.channel.Channel.moment.Goals as goal
 

@@ -1,4 +1,3 @@
-use borrow.Author.Rules.{rules}
 use Rattle.channel.specs.Channel.{pending_at}
 use Rattle.channel.proofs.channel.Channel.pending.Goals as goal
 

@@ -1,4 +1,3 @@
-use borrow.Author.Rules.{rules}
 use Rattle.channel.specs.Channel.{rts_asserted}
 use Rattle.channel.proofs.channel.Channel.rts.Goals as goal
 

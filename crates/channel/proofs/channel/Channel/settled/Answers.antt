@@ -1,4 +1,3 @@
-use borrow.Author.Rules.{rules}
 use Rattle.channel.specs.Settle.{settled_of}
 use Rattle.channel.proofs.channel.Channel.settled.Goals as goal
 

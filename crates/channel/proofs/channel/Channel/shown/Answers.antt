@@ -1,4 +1,3 @@
-use borrow.Author.Rules.{rules}
 use Rattle.channel.specs.Channel.{shown_at}
 use Rattle.channel.proofs.channel.Channel.shown.Goals as goal
 

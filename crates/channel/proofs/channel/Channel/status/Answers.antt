@@ -1,4 +1,3 @@
-use borrow.Author.Rules.{rules}
 use Rattle.channel.specs.Channel.{status_of}
 use Rattle.channel.proofs.channel.Channel.status.Goals as goal
 

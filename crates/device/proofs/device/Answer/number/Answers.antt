@@ -1,4 +1,3 @@
-use borrow.Author.Rules.{rules}
 use Rattle.device.specs.Device.{answer_number}
 use Rattle.device.proofs.device.Answer.number.Goals as goal
 

@@ -1,4 +1,3 @@
-use borrow.Author.Rules.{rules}
 use Rattle.device.specs.Device.{answered_of}
 use Rattle.device.proofs.device.Device.answered.Goals as goal
 

@@ -1,4 +1,3 @@
-use borrow.Author.Rules.{rules}
 use Rattle.device.specs.Device.{given_for}
 use Rattle.device.proofs.device.Device.given.Goals as goal
 

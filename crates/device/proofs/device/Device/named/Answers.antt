@@ -1,4 +1,3 @@
-use borrow.Author.Rules.{rules}
 use Rattle.acts.specs.Laws.{step_in}
 use Rattle.device.specs.declared.side.Side.TheVariants as side
 use Rattle.device.specs.Laws.{named_in_turn}

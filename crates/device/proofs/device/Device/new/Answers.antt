@@ -1,4 +1,3 @@
-use borrow.Author.Rules.{rules}
 use Rattle.device.specs.Reset.{new_device}
 use Rattle.device.proofs.device.Device.new.Goals as goal
 

@@ -1,4 +1,3 @@
-use borrow.Author.Rules.{rules}
 use Rattle.device.specs.Reset.{reset_device}
 use Rattle.device.proofs.device.Device.reset.Goals as goal
 

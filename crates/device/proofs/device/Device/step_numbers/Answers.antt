@@ -1,4 +1,3 @@
-use borrow.Author.Rules.{rules}
 use Rattle.device.specs.Laws.{made_in}
 use Rattle.device.specs.Device.{answered_of}
 use Rattle.device.proofs.device.Device.step_numbers.Goals as goal

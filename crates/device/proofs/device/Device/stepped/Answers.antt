@@ -1,4 +1,3 @@
-use borrow.Author.Rules.{rules}
 use Rattle.device.specs.Device.{step_of}
 use Rattle.device.proofs.device.Device.stepped.Goals as goal
 

@@ -1,4 +1,3 @@
-use borrow.Author.Rules.{rules}
 use Rattle.event.specs.Events.{judged_of}
 use Rattle.event.proofs.events.Event.judged.Goals as goal
 

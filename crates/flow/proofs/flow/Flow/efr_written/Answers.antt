@@ -1,4 +1,3 @@
-use borrow.Author.Rules.{rules}
 use Rattle.flow.specs.Flow.{efr_written}
 use Rattle.flow.proofs.flow.Flow.efr_written.Goals as goal
 

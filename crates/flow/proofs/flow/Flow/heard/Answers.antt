@@ -1,4 +1,3 @@
-use borrow.Author.Rules.{rules}
 use Rattle.flow.specs.Flow.{flow_heard}
 use Rattle.flow.proofs.flow.Flow.heard.Goals as goal
 

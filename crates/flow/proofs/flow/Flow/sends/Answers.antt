@@ -1,4 +1,3 @@
-use borrow.Author.Rules.{rules}
 use Rattle.flow.specs.Flow.{sends_waiting}
 use Rattle.flow.proofs.flow.Flow.sends.Goals as goal
 

@@ -1,4 +1,3 @@
-use borrow.Author.Rules.{rules}
 use Rattle.flow.specs.Flow.{flow_sent}
 use Rattle.flow.proofs.flow.Flow.sent.Goals as goal
 

@@ -1,4 +1,3 @@
-use borrow.Author.Rules.{rules}
 use Rattle.flow.specs.Flow.{flow_settled}
 use Rattle.flow.proofs.flow.Flow.settled.Goals as goal
 

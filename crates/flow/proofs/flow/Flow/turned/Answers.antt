@@ -1,4 +1,3 @@
-use borrow.Author.Rules.{rules}
 use Rattle.flow.specs.Flow.{flow_turned}
 use Rattle.flow.proofs.flow.Flow.turned.Goals as goal
 

@@ -1,4 +1,3 @@
-use borrow.Author.Rules.{rules}
 use Rattle.flow.specs.Flow.{flow_written}
 use Rattle.flow.proofs.flow.Flow.written.Goals as goal
 

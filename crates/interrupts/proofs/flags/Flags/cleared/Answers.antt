@@ -1,4 +1,3 @@
-use borrow.Author.Rules.{rules}
 use Rattle.interrupts.specs.Flags.{flags_cleared}
 use Rattle.interrupts.proofs.flags.Flags.cleared.Goals as goal
 

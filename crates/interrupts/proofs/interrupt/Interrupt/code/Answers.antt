@@ -1,4 +1,3 @@
-use borrow.Author.Rules.{rules}
 use Rattle.interrupts.specs.Interrupts.{code_of}
 use Rattle.interrupts.proofs.interrupt.Interrupt.code.Goals as goal
 

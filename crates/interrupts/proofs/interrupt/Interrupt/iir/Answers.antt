@@ -1,5 +1,4 @@
 use Rattle.interrupts.proofs.Sums.{iir_sum}
-use borrow.Author.Rules.{rules}
 use Rattle.interrupts.proofs.interrupt.Interrupt.iir.Goals as goal
 
 pub returns : goal.returns

@@ -1,4 +1,3 @@
-use borrow.Author.Rules.{rules}
 use Rattle.interrupts.specs.Interrupts.{is_pending}
 use Rattle.interrupts.proofs.interrupt.Interrupt.pending.Goals as goal
 

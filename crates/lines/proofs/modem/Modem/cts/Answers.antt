@@ -1,4 +1,3 @@
-use borrow.Author.Rules.{rules}
 use Rattle.lines.specs.Modem.{cts_asserted}
 use Rattle.lines.proofs.modem.Modem.cts.Goals as goal
 

@@ -1,5 +1,4 @@
 use Rattle.lines.proofs.Sums.{msr_sum}
-use borrow.Author.Rules.{rules}
 use Rattle.lines.proofs.modem.Modem.msr.Goals as goal
 
 pub returns : goal.returns

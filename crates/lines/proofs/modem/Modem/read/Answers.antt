@@ -1,4 +1,3 @@
-use borrow.Author.Rules.{rules}
 use Rattle.lines.specs.Modem.{modem_read}
 use Rattle.lines.proofs.modem.Modem.read.Goals as goal
 

@@ -1,4 +1,3 @@
-use borrow.Author.Rules.{rules}
 use Rattle.lines.specs.Transmit.{is_busy}
 use Rattle.lines.proofs.transmit.Shift.busy.Goals as goal
 

@@ -1,4 +1,3 @@
-use borrow.Author.Rules.{rules}
 use Rattle.lines.specs.Transmit.{slot_reply}
 use Rattle.lines.proofs.transmit.Shift.leaving.Goals as goal
 

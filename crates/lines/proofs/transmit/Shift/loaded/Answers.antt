@@ -1,4 +1,3 @@
-use borrow.Author.Rules.{rules}
 use Rattle.lines.specs.Transmit.{shift_loaded}
 use Rattle.lines.proofs.transmit.Shift.loaded.Goals as goal
 

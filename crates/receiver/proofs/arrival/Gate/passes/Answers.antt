@@ -1,4 +1,3 @@
-use borrow.Author.Rules.{rules}
 use Rattle.receiver.specs.Arrivals.{does_pass}
 use Rattle.receiver.proofs.arrival.Gate.passes.Goals as goal
 

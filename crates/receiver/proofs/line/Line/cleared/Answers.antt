@@ -1,4 +1,3 @@
-use borrow.Author.Rules.{rules}
 use Rattle.receiver.specs.Line.{line_cleared}
 use Rattle.receiver.proofs.line.Line.cleared.Goals as goal
 

@@ -1,5 +1,4 @@
 use native.Mathlib.Omega.{arith}
-use borrow.Author.Rules.{rules}
 use Rattle.bits.specs.Laws.{one_if_in}
 use Rattle.receiver.specs.Line.{line_quieter}
 use Rattle.receiver.proofs.line.Line.quieter.Goals as goal

@@ -1,4 +1,3 @@
-use borrow.Author.Rules.{rules}
 use Rattle.receiver.specs.Line.{line_read}
 use Rattle.receiver.proofs.line.Line.read.Goals as goal
 

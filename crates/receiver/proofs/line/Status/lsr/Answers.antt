@@ -1,5 +1,4 @@
 use Rattle.receiver.proofs.Sums.{lsr_sum}
-use borrow.Author.Rules.{rules}
 use Rattle.receiver.proofs.line.Status.lsr.Goals as goal
 
 pub returns : goal.returns

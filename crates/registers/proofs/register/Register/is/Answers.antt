@@ -1,4 +1,3 @@
-use borrow.Author.Rules.{rules}
 use Rattle.registers.proofs.register.Register.is.Goals as goal
 
 pub returns : goal.returns

@@ -1,4 +1,3 @@
-use borrow.Author.Rules.{rules}
 use Rattle.registers.proofs.register.Register.place.Goals as goal
 
 pub returns-in-RhrThr : goal.returns-in-RhrThr

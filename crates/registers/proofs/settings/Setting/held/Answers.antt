@@ -1,4 +1,3 @@
-use borrow.Author.Rules.{rules}
 use Rattle.registers.specs.Writes.{if_set}
 use Rattle.registers.proofs.settings.Setting.held.Goals as goal
 

@@ -1,4 +1,3 @@
-use borrow.Author.Rules.{rules}
 use Rattle.registers.specs.Writes.{divisor_written}
 use Rattle.registers.proofs.settings.Settings.divisor_written.Goals as goal
 

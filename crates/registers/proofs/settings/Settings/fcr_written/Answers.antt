@@ -1,4 +1,3 @@
-use borrow.Author.Rules.{rules}
 use Rattle.registers.specs.Writes.{fcr_written}
 use Rattle.registers.proofs.settings.Settings.fcr_written.Goals as goal
 

@@ -1,4 +1,3 @@
-use borrow.Author.Rules.{rules}
 use Rattle.registers.specs.Writes.{guard_open}
 use Rattle.registers.proofs.settings.Settings.guard_open.Goals as goal
 

@@ -1,4 +1,3 @@
-use borrow.Author.Rules.{rules}
 use Rattle.registers.specs.Writes.{ier_written}
 use Rattle.registers.proofs.settings.Settings.ier_written.Goals as goal
 

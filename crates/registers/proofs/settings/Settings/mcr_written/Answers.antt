@@ -1,4 +1,3 @@
-use borrow.Author.Rules.{rules}
 use Rattle.registers.specs.Writes.{mcr_written}
 use Rattle.registers.proofs.settings.Settings.mcr_written.Goals as goal
 

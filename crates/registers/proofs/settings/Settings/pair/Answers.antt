@@ -1,4 +1,3 @@
-use borrow.Author.Rules.{rules}
 use Rattle.registers.specs.Pairs.{pair_at}
 use Rattle.registers.proofs.settings.Settings.pair.Goals as goal
 

@@ -1,5 +1,4 @@
 use borrow.Author.Tests.{eq-eqb, ne_eqb}
-use borrow.Author.Rules.{rules}
 use Rattle.registers.specs.Windows.{register_at}
 use Rattle.registers.proofs.settings.Settings.register.Goals as goal
 

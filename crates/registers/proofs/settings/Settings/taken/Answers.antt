@@ -1,4 +1,3 @@
-use borrow.Author.Rules.{rules}
 use Rattle.registers.specs.Writes.{taken_by}
 use Rattle.registers.proofs.settings.Settings.taken.Goals as goal
 

@@ -1,4 +1,3 @@
-use borrow.Author.Rules.{rules}
 use Rattle.registers.specs.Windows.{tcr_open}
 use Rattle.registers.proofs.settings.Settings.tcr_open.Goals as goal
 

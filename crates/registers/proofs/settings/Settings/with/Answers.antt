@@ -1,5 +1,4 @@
 use mathlib.Core.Path.{sym, ◌∙◌}
-use borrow.Author.Rules.{rules}
 use Rattle.registers.specs.Writes.{with_setting}
 use Rattle.registers.specs.Laws.{same_is, closed_sets_none}
 use Rattle.registers.proofs.settings.Settings.with.Goals as goal

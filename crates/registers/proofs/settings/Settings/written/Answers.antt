@@ -1,4 +1,3 @@
-use borrow.Author.Rules.{rules}
 use Rattle.registers.specs.Writes.{setting_of}
 use Rattle.registers.proofs.settings.Settings.written.Goals as goal
 

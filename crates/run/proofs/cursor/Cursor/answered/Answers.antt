@@ -1,5 +1,4 @@
 use native.Mathlib.Omega.{arith}
-use borrow.Author.Rules.{rules}
 use Rattle.run.proofs.cursor.Cursor.answered.Goals as goal
 
 pub overflow_add-cursor : goal.overflow_add-cursor

@@ -1,4 +1,3 @@
-use borrow.Author.Rules.{rules}
 use Rattle.run.specs.Cursor.{new_cursor}
 use Rattle.run.proofs.cursor.Cursor.new.Goals as goal
 

@@ -1,5 +1,4 @@
 use mathlib.Core.Path.{sym, ◌∙◌}
-use borrow.Author.Rules.{rules}
 use Rattle.run.specs.Cursor.{progress_of}
 use Rattle.run.specs.Laws.{read_judged}
 use Rattle.run.proofs.cursor.Cursor.proceed.Goals as goal
