@@ -1,6 +1,6 @@
 /* Two ways in which a box's code can read a meter telegram, over the model of the chip.
  *
- *     rt staticlib sc16is752
+ *     tools/archives
  *     cc -std=c11 -Iinclude examples/box.c target/staticlib/libsc16is752.a -o box && ./box
  *
  * A meter sends the reading 4711, and the 7 is damaged on the way: a 5 arrives, its parity wrong. LSR speaks of the oldest

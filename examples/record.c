@@ -1,6 +1,6 @@
 /* The spring fault, recorded while it happens: an event file of all that the box did, which the bench program runs again.
  *
- *     rt staticlib sc16is752 && rt staticlib sc16is752_file
+ *     tools/archives
  *     cc -std=c11 -Iinclude examples/record.c target/staticlib/libsc16is752.a target/staticlib/libsc16is752_file.a -o record
  *     ./record fault.events > seen
  *     ./bench < fault.events | diff seen -

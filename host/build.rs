@@ -1,4 +1,4 @@
-// Links the archive that `rt staticlib sc16is752` writes.
+// Links the archive that tools/archives writes.
 fn main() {
     let root = std::path::Path::new(env!("CARGO_MANIFEST_DIR")).parent().unwrap();
     let archive = root.join("target/staticlib");

@@ -125,7 +125,7 @@ module _ (s : List ℕ) where
   unfolding text_in run_from lines_of
   steps_say_the_answers zero c going = refl
   steps_say_the_answers (suc n) c going =
-      rw (going_progress s c going) (said_by n c (read_at s c.place) (λ e Going-on. steps_say_the_answers n e Going-on))
+      rw (going_progress s c going) (said_by n c (read_at s c.place) (λ e after. steps_say_the_answers n e after))
 
   pub steps_are_the_text : (n : ℕ) → length s ≤ n → text_in n s new_cursor ≡ text_of s
   unfolding text_of new_cursor

@@ -70,7 +70,7 @@ module _ (R P Q : RattleType) (ν : Sym) (m n : Member) (ms : List Member) (lawf
     (to : R.Denot → Denots (rows_of (m ∷ n ∷ ms))) (same : (x : R.Denot) (b o : ℕ) → part_at R full_share x b o ≡ part_at (Struct (shape_of ν (m ∷ n ∷ ms))) full_share (to x) b o)
     (get : R.Denot → P.Denot) (get₂ : R.Denot → Q.Denot) (put : R.Denot → P.Denot → Q.Denot → R.Denot)
     (first : (x : R.Denot) (b o : ℕ) → part_at (row_of m) full_share (to x).0 b o ≡ part_at P full_share (get x) b o) (then : (x : R.Denot) (b o : ℕ) → part_at (row_of n) full_share (to x).1.0 b o ≡ part_at Q full_share (get₂ x) b o)
-    (get_put : (x : R.Denot) (y : P.Denot) (z : Q.Denot) → get (put x y z) ≡ y) (get₂-put : (x : R.Denot) (y : P.Denot) (z : Q.Denot) → get₂ (put x y z) ≡ z) (rest_put : (x : R.Denot) (y : P.Denot) (z : Q.Denot) → (to (put x y z)).1.1 ≡ (to x).1.1) where
+    (get_put : (x : R.Denot) (y : P.Denot) (z : Q.Denot) → get (put x y z) ≡ y) (get₂_put : (x : R.Denot) (y : P.Denot) (z : Q.Denot) → get₂ (put x y z) ≡ z) (rest_put : (x : R.Denot) (y : P.Denot) (z : Q.Denot) → (to (put x y z)).1.1 ≡ (to x).1.1) where
   abbrev d₀ : ℕ
   d₀ = up (align m.ty) zero
 
@@ -108,7 +108,7 @@ module _ (R P Q : RattleType) (ν : Sym) (m n : Member) (ms : List Member) (lawf
         filled : (y : P.Denot) (z : Q.Denot) → ent 𝓤 (sep 𝓤 (Lie P y (o + d₀)) (sep 𝓤 (Lie Q z (o + d₁)) (Rest (to x).1.1))) (sem 𝓛 (parts_at full_share (m ∷ n ∷ ms) zero (to (put x y z)) b o))
         filled y z =
             subst (λ (u : P.Denot). ent 𝓤 (sep 𝓤 (Lie P u (o + d₀)) (sep 𝓤 (Lie Q z (o + d₁)) (Rest (to x).1.1))) Filled) (get_put x y z)
-            (subst (λ (u : Q.Denot). ent 𝓤 (sep 𝓤 (Lie P (get (put x y z)) (o + d₀)) (sep 𝓤 (Lie Q u (o + d₁)) (Rest (to x).1.1))) Filled) (get₂-put x y z)
+            (subst (λ (u : Q.Denot). ent 𝓤 (sep 𝓤 (Lie P (get (put x y z)) (o + d₀)) (sep 𝓤 (Lie Q u (o + d₁)) (Rest (to x).1.1))) Filled) (get₂_put x y z)
             (subst (λ (a : Denots (rows_of ms)). ent 𝓤 (sep 𝓤 (Lie P (get (put x y z)) (o + d₀)) (sep 𝓤 (Lie Q (get₂ (put x y z)) (o + d₁)) (Rest a))) Filled) (rest_put x y z)
             (subst (λ (F : Fml). ent 𝓤 (sep 𝓤 (sem 𝓛 F) (sep 𝓤 (Lie Q (get₂ (put x y z)) (o + d₁)) (Rest (to (put x y z)).1.1))) Filled) (first (put x y z) b (o + d₀))
             (subst (λ (F : Fml). ent 𝓤 (sep 𝓤 (Lie (row_of m) (to (put x y z)).0 (o + d₀)) (sep 𝓤 (sem 𝓛 F) (Rest (to (put x y z)).1.1))) Filled) (then (put x y z) b (o + d₁)) (id⊢ 𝓤 Filled)))))
