@@ -1,4 +1,4 @@
--- Definitions: demand 3, as it is claimed of a device for either channel after every history. Its proofs stand in the files beside.
+-- Definitions: demand 3, as it is claimed of a device for either channel after every history. Its proofs stand in `proofs/`.
 use Rattle.std.specs.Prelude.{ℕ, ◌-◌, ◌<◌, ◌≤◌, ◌≡◌, Bool, false, List, [], ◌∷◌, ◌++◌, map, length, get_or, take}
 use Rattle.bits.specs.Choice.{pick}
 use Rattle.bits.specs.Bits.{bit_at, part_at}

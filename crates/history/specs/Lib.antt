@@ -1,5 +1,5 @@
--- Demand 3: the judge and the claims are what a reader must believe; the files behind them prove the claims. Then the rules that
--- judge and device share, what holds of every record, what looks leave alone, and P1 to P12.
+-- Demand 3: the judge and the claims are what a reader must believe. Then the words of what is proved beside them (`proofs/`), and P1
+-- to P12.
 pub mod Judge
 pub mod Demand3
 pub mod Tally
@@ -7,8 +7,6 @@ pub mod Seen
 pub mod Agreement
 pub mod Order
 pub mod Reads
-pub mod Proved
-pub mod Alone
 pub mod Numbers
 pub mod Files
 pub mod Lent

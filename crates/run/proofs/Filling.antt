@@ -9,7 +9,7 @@ use lib.Seq.{sets, sets-eq}
 use Rattle.run.specs.declared.cursor.Cursor.{Cursor}
 use Rattle.run.specs.declared.cursor.Progress.{Progress}
 use Rattle.run.specs.Cursor.{progress_of, text_said, text_in, cursor_after, filled_by}
-use Rattle.run.specs.Laws.{cursor_sum, text_sum, cursor_more, text_more}
+use Rattle.run.proofs.Laws.{cursor_sum, text_sum, cursor_more, text_more}
 use Rattle.text.proofs.Stores.{sets_append}
 
 pub record Filling (s : List ℕ) (c₀ : Cursor) (out₀ : List ℕ) (out : List ℕ) (c : Cursor) (count i : ℕ) : Type 0 where

@@ -1,2 +1,4 @@
--- What the proofs of single functions cite.
+-- The theorems on a run, and what the proofs of single functions cite.
+pub mod Laws
+pub mod Theorems
 pub mod Filling

@@ -1,4 +1,5 @@
--- What the contracts of `run` cite, in the order of document 01's "Event file and refusal numbers", and the theorems on it.
+-- What the contracts of `run` cite, in the order of document 01's "Event file and refusal numbers", and what the theorems on it
+-- (`proofs/`) speak of.
 pub mod Lines
 pub mod Run
 pub mod Cursor

@@ -13,7 +13,7 @@ use Rattle.event.specs.declared.events.Event.TheVariants as event
 use Rattle.event.specs.Events.{InRange}
 use Rattle.file.specs.Numbers.{groups}
 use Rattle.file.specs.Form.{bytes_of}
-use Rattle.file.specs.Laws.{one_group, two_groups}
+use Rattle.file.proofs.Laws.{one_group, two_groups}
 
 abbrev byte_groups : ℕ → List ℕ
 byte_groups byte = pick (ltb byte 128) (byte ∷ []) (byte ∷ 1 ∷ [])

@@ -11,8 +11,8 @@ use Rattle.event.specs.Laws.{made_in_range}
 use Rattle.file.specs.declared.reading.Reading.TheVariants as reading
 use Rattle.file.specs.Reading.{read_at}
 use Rattle.file.specs.Form.{bytes_of}
-use Rattle.file.specs.Laws.{bytes_at_most_five}
-use Rattle.file.specs.Theorems.{bytes_read_back}
+use Rattle.file.proofs.Laws.{bytes_at_most_five}
+use Rattle.file.proofs.Theorems.{bytes_read_back}
 use Rattle.writer.specs.declared.Written.{Written}
 use Rattle.writer.specs.Writing.{padded, whole_of, written_of}
 

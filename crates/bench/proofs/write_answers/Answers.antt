@@ -1,5 +1,5 @@
 use Rattle.std.proofs.Common.{◌≡◌, refl, sym, Bool, true, false, not, arith}
-use Rattle.run.specs.Laws.{well_formed_new_cursor, well_formed_after, nearer_after}
+use Rattle.run.proofs.Laws.{well_formed_new_cursor, well_formed_after, nearer_after}
 use Rattle.bench.proofs.write_answers.Goals as goal
 
 not_over : (over : Bool) → not over ≡ true → over ≡ false

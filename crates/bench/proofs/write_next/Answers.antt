@@ -1,7 +1,7 @@
 use Rattle.std.proofs.Common.{sym}
 use lib.Seq.{length-take-le}
 use Rattle.run.specs.Cursor.{filled_by}
-use Rattle.run.specs.Theorems.{count_within}
+use Rattle.run.proofs.Theorems.{count_within}
 use Rattle.bench.proofs.write_next.Goals as goal
 
 pub slice_bounds-out-end : goal.slice_bounds-out-end

@@ -3,7 +3,7 @@ use Prim.Native.Nat.{◌≤◌}
 use lib.ListN.{length}
 use Rattle.text.specs.Text.{line_with}
 use Rattle.run.specs.Lines.{refused, line_of}
-use Rattle.run.specs.Laws.{okay_length, refused_length}
+use Rattle.run.proofs.Laws.{okay_length, refused_length}
 use Rattle.run.proofs.line.put_answer.Goals as goal
 
 pub put_line-requires : goal.put_line-requires

@@ -1,7 +1,7 @@
 -- The loop's invariant: after `i` steps the buffer holds their text, at most sixteen bytes each. The measure is what is left of the lines.
 use native.Mathlib.Omega.{arith}
 use mathlib.Core.Path.{refl, ◌∙◌}
-use Rattle.run.specs.Laws.{well_formed_progress, over_still, over_silent}
+use Rattle.run.proofs.Laws.{well_formed_progress, over_still, over_silent}
 use Rattle.run.proofs.Filling.{filling_new, filling_more, filling_done, filling_whole}
 use Rattle.run.proofs.cursor.Cursor.fill.Goals as goal
 

@@ -1,6 +1,6 @@
 use mathlib.Core.Path.{sym, ◌∙◌}
 use Rattle.run.specs.Cursor.{progress_of}
-use Rattle.run.specs.Laws.{read_judged}
+use Rattle.run.proofs.Laws.{read_judged}
 use Rattle.run.proofs.cursor.Cursor.proceed.Goals as goal
 
 pub returns-then-self : goal.returns-then-self

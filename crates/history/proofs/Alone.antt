@@ -18,9 +18,10 @@ use Rattle.device.specs.Reset.{reset_device, new_device}
 use Rattle.device.specs.Device.{channel_at, side_numbered, touched_at, named_step, step_of, answered_of, answer_number}
 use Rattle.history.specs.Judge.{Ledger, fresh_ledger, tally_after, Effect, Own, Other, Reset, Nothing, is_side, effect_on, ledger_after, judged_by, judged_from}
 use Rattle.history.specs.Demand3.{ran_from, answers_from, Log, log_of, OfNewDevice, left_of, remainder_from, remainder, of_own, own_of, Alone}
-use Rattle.history.specs.Seen.{number_for, channel_met, Same, own_side, seen}
-use Rattle.history.specs.Agreement.{same_answered, agrees_new}
-use Rattle.history.specs.Proved.{by_log}
+use Rattle.history.specs.Seen.{number_for, channel_met, Same}
+use Rattle.history.proofs.Seen.{own_side, seen}
+use Rattle.history.proofs.Agreement.{same_answered, agrees_new}
+use Rattle.history.proofs.Proved.{by_log}
 
 -- ---- the number that an event of the channel is answered with goes by the channel alone
 abbrev reply_by : Channel → Touch → ℕ

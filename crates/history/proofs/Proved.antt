@@ -29,11 +29,14 @@ use Rattle.device.specs.Device.{channel_at, step_of, answered_of, answer_number}
 use Rattle.device.specs.Laws.{well_formed_new, well_formed_at, well_formed_answered}
 use Rattle.history.specs.Judge.{queued, unread, keeps, finds, Ledger, fresh_ledger, Effect, Own, Other, Reset, Nothing, effect_on, change_by, ledger_after, judged_by, judged_from, judgement}
 use Rattle.history.specs.Demand3.{ran, answers_from, AllIn, Log, log_of, OfNewDevice, number, found_after, found_from, Demand3}
-use Rattle.history.specs.Tally.{holds_count}
-use Rattle.history.specs.Seen.{number_for, own_reply}
-use Rattle.history.specs.Agreement.{Agrees, agrees_answered, agrees_new, agreement, well_formed_ran}
+use Rattle.history.proofs.Tally.{holds_count}
+use Rattle.history.specs.Seen.{number_for}
+use Rattle.history.proofs.Seen.{own_reply}
+use Rattle.history.specs.Agreement.{Agrees}
+use Rattle.history.proofs.Agreement.{agrees_answered, agrees_new, agreement, well_formed_ran}
 use Rattle.history.specs.Reads.{read_reply_lem, arrival_reply_lem, fate_kept, taken_reply, rhr_read, rxlvl_read, lsr_marks_read, lsr_ready_read, lsr_error_read}
-use Rattle.history.specs.Order.{InOrder, in_order_after}
+use Rattle.history.specs.Order.{InOrder}
+use Rattle.history.proofs.Order.{in_order_after}
 
 module _ (w : Side) (d : Device) (l : Ledger) (ok : device.WellFormed d) (h : Agrees w d l) where
   abbrev ch : Channel

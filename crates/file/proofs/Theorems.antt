@@ -10,7 +10,8 @@ use Rattle.file.specs.declared.reading.Reading.TheVariants as reading
 use Rattle.file.specs.Reading.{read_at}
 use Rattle.file.specs.Form.{bytes_of}
 use Rattle.file.specs.Whole.{standing_at}
-use Rattle.file.specs.Laws.{Bytes, numbers_back, bytes_of_made, ReadingFrom, reading_from}
+use Rattle.file.specs.Laws.{Bytes, ReadingFrom}
+use Rattle.file.proofs.Laws.{numbers_back, bytes_of_made, reading_from}
 
 module _ (s : List ℕ) (at : ℕ) where
   -- the bytes of an event read back as that event, whatever stands before them and after
