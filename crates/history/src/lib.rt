@@ -1,2 +1,2 @@
-// Theorems over every history. They stand in specs/; there is no code here.
+// Theorems over every history. Their words stand in specs/, the proofs in proofs/; there is no code here.
 #![tactic(auto)]

@@ -1,4 +1,4 @@
--- What the contracts of `lent` cite: `Lent` is what a reader must believe, `Way` what the walks go by. `Laws` is proved of them.
+-- What the contracts of `lent` cite: `Lent` is what a reader must believe, `Way` what the code goes by. `Laws` is proved of them.
 pub mod Lent
 pub mod Way
 pub mod Laws

@@ -1,3 +1,3 @@
--- For proofs alone: what those of single functions cite, and what walks over a lent queue share.
+-- For proofs alone: what those of single functions cite.
 pub mod OneWay
 pub mod Search
