@@ -44,11 +44,11 @@ five kind x y z w is = rw is (written_five_at_most kind x y z).1
 pub returns-then-written-ne0 : goal.returns-then-written-ne0
 returns-then-written-ne0 c = rw c.refused_answer.ensures (refused _ _ _ c.write-written.ensures c.if-written-ne0.true)
 
-pub returns-then-out-count : goal.returns-then-out-count
-returns-then-out-count c = too_long _ _ _ c.write-written.ensures c.if-written-ne0.false c.if-out-count.true
-
 pub put_front-requires : goal.put_front-requires
 put_front-requires c = (five _ _ _ _ _ c.write-written.ensures, c.if-out-count.false)
+
+pub returns-then-out-count : goal.returns-then-out-count
+returns-then-out-count c = too_long _ _ _ c.write-written.ensures c.if-written-ne0.false c.if-out-count.true
 
 pub returns : goal.returns
 returns c = fitting _ _ _ _ c.write-written.ensures c.if-written-ne0.false c.if-out-count.false c.put_front.ensures
