@@ -12,6 +12,12 @@ returns-then-number-lt10 t c = record {
   out_after = digit_stored _ _ _ c.if-number-lt10.true;
 }
 
+pub returns : goal.returns
+returns t c = record {
+  value = omega (arith, digits_more _ c.if-number-lt10.false, c.put_number-last.ensures.value);
+  out_after = digits_stored _ _ _ _ _ c.if-number-lt10.false c.put_number-last.ensures.value c.put_number-last.ensures.out_after;
+}
+
 pub put_number-last-requires : goal.put_number-last-requires
 put_number-last-requires t c = (omega arith, omega (arith, digits_more _ c.if-number-lt10.false))
 
@@ -20,9 +26,3 @@ bounds-out-last t c = omega (arith, digits_more _ c.if-number-lt10.false, c.put_
 
 pub overflow_add-result-2 : goal.overflow_add-result-2
 overflow_add-result-2 t c = omega (arith, digits_more _ c.if-number-lt10.false, c.put_number-last.ensures.value)
-
-pub returns : goal.returns
-returns t c = record {
-  value = omega (arith, digits_more _ c.if-number-lt10.false, c.put_number-last.ensures.value);
-  out_after = digits_stored _ _ _ _ _ c.if-number-lt10.false c.put_number-last.ensures.value c.put_number-last.ensures.out_after;
-}
