@@ -1,4 +1,3 @@
--- The loop's invariant: the bytes before `i` are stored from `at` on. The measure is what is left of the text.
 use native.Mathlib.Omega.{arith}
 use mathlib.Core.Path.{refl}
 use lib.ListN.{length-set}

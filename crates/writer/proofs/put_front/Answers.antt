@@ -1,4 +1,3 @@
--- The loop's invariant: the bytes before `i` are put. The measure is what is left of the count.
 use Prim.Native.Nat.{ℕ, ◌+◌, ◌<◌, ◌≤◌}
 use native.Mathlib.Nat.{zero-add}
 use native.Mathlib.Numerals.{add-one}

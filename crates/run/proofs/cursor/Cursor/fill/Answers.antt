@@ -1,4 +1,3 @@
--- The loop's invariant: after `i` steps the buffer holds their text, at most sixteen bytes each. The measure is what is left of the lines.
 use native.Mathlib.Omega.{arith}
 use mathlib.Core.Path.{refl, ◌∙◌}
 use Rattle.run.proofs.Laws.{well_formed_progress, over_still, over_silent}
