@@ -1,11 +1,11 @@
 -- Definitions: the device: its record, and what an event makes of it.
-use Rattle.std.specs.Prelude.{ℕ, Bool, ◌||◌, eqb}
+use Rattle.std.specs.Prelude.{ℕ, Bool, ◌||◌, eqb, Result, Ok, Err}
 use Rattle.bits.specs.Choice.{pick}
 use Rattle.bits.specs.Bits.{one_if}
+use Rattle.event.specs.declared.refusal.Refusal.{Refusal}
 use Rattle.event.specs.declared.events.Event.{Event}
 use Rattle.event.specs.declared.events.Event.TheVariants as event
-use Rattle.event.specs.declared.events.Made.{Made}
-use Rattle.event.specs.declared.events.Made.TheVariants as made
+use Rattle.event.specs.Events.{Made}
 use Rattle.event.specs.declared.events.Touch.{Touch}
 use Rattle.event.specs.Refusals.{refusal_number, refused_answer}
 use Rattle.interrupts.specs.Interrupts.{is_pending}
@@ -18,8 +18,6 @@ use Rattle.device.specs.declared.side.Side.{Side}
 use Rattle.device.specs.declared.side.Side.TheVariants as side
 use Rattle.device.specs.declared.device.Device.{Device}
 use Rattle.device.specs.declared.device.Stepped.{Stepped}
-use Rattle.device.specs.declared.device.Answer.{Answer}
-use Rattle.device.specs.declared.device.Answer.TheVariants as answer
 use Rattle.device.specs.declared.device.Outcome.{Outcome}
 use Rattle.device.specs.Reset.{reset_device}
 
@@ -64,12 +62,16 @@ step_of d (event.At channel t) = named_step d (side_numbered channel) t
 step_of d event.Reset = record { device = reset_device d; reply = 0 }
 step_of d event.IrqLook = record { device = d; reply = one_if (irq_of d.a d.b) }
 
+-- what an event is answered with: the reply, or why it is refused
+abbrev pub Answer : Type 0
+Answer = Result ℕ Refusal
+
 -- "A refused event leaves the device unchanged"
 unfoldable pub answered_of : Device → Made → Outcome
-answered_of d (made.Event e) = record { device = (step_of d e).device; answer = answer.Reply (step_of d e).reply }
-answered_of d (made.Refused r) = record { device = d; answer = answer.Refused r }
+answered_of d (Ok e) = record { device = (step_of d e).device; answer = Ok (step_of d e).reply }
+answered_of d (Err r) = record { device = d; answer = Err r }
 
 -- an answer as one number: the reply, or 512 and the refusal number
 unfoldable pub answer_number : Answer → ℕ
-answer_number (answer.Reply n) = n
-answer_number (answer.Refused r) = refused_answer (refusal_number r)
+answer_number (Ok n) = n
+answer_number (Err r) = refused_answer (refusal_number r)

@@ -1,6 +1,6 @@
 -- Laws: what holds of every step: a reset is the act only, the record stays well formed, the other channel is left alone, and
 -- a refused event changes nothing.
-use Rattle.std.specs.Prelude.{ℕ, ◌<◌, ◌≡◌, Bool}
+use Rattle.std.specs.Prelude.{ℕ, ◌<◌, ◌≡◌, Bool, Ok, Err}
 use Rattle.std.proofs.Common.{arith, ◌∙◌}
 use Rattle.std.proofs.Math.Path.{refl, ap}
 use Rattle.std.proofs.Math.Bool.{true, false}
@@ -12,11 +12,9 @@ use Rattle.queue.specs.Laws.{well_formed_empty, well_formed_after, empty_below}
 use Rattle.event.specs.declared.refusal.Refusal.{Refusal}
 use Rattle.event.specs.declared.events.Event.{Event}
 use Rattle.event.specs.declared.events.Event.TheVariants as event
-use Rattle.event.specs.declared.events.Made.{Made}
-use Rattle.event.specs.declared.events.Made.TheVariants as made
 use Rattle.event.specs.declared.events.Touch.{Touch}
 use Rattle.event.specs.declared.events.Touch.TheVariants as touch
-use Rattle.event.specs.Events.{TouchIn, InRange, numbers_of, event_of, judged_of}
+use Rattle.event.specs.Events.{TouchIn, InRange, numbers_of, event_of, judged_of, Made}
 use Rattle.event.specs.Laws.{made_in_range}
 use Rattle.registers.specs.declared.register.Register.TheVariants as register
 use Rattle.registers.specs.declared.settings.Settings.{Settings}
@@ -37,7 +35,6 @@ use Rattle.device.specs.declared.side.Side.{Side}
 use Rattle.device.specs.declared.side.Side.TheVariants as side
 use Rattle.device.specs.declared.device.Device.{Device}
 use Rattle.device.specs.declared.device.Stepped.{Stepped}
-use Rattle.device.specs.declared.device.Answer.TheVariants as answer
 use Rattle.device.specs.Reset.{reset_lcr, new_byte, settings_reset, lines_reset, reset_of, blank_settings, blank_channel, reset_device, new_device}
 use Rattle.device.specs.Device.{WellFormed, channel_at, with_channel, side_numbered, touched_at, given_for, named_step, step_of, answered_of}
 
@@ -192,15 +189,15 @@ well_formed_step d event.IrqLook range ok = ok
 
 -- what numbers or an event come to: in range, or refused
 abbrev pub MadeIn : Made → Type 0
-MadeIn (made.Event e) = InRange e
-MadeIn (made.Refused r) = Unit {0}
+MadeIn (Ok e) = InRange e
+MadeIn (Err r) = Unit {0}
 
 pub made_in : (kind x y z : ℕ) → MadeIn (event_of kind x y z)
 made_in kind x y z = go (event_of kind x y z) refl
   where
     go : (m : Made) → event_of kind x y z ≡ m → MadeIn m
-    go (made.Event e) h = made_in_range kind x y z h
-    go (made.Refused r) h = tt
+    go (Ok e) h = made_in_range kind x y z h
+    go (Err r) h = tt
 
 pub judged_in : (e : Event) → MadeIn (judged_of e)
 unfolding judged_of
@@ -208,8 +205,8 @@ judged_in e = made_in (numbers_of e).kind (numbers_of e).x (numbers_of e).y (num
 
 pub well_formed_answered : (d : Device) (m : Made) → MadeIn m → WellFormed d → WellFormed (answered_of d m).device
 unfolding answered_of
-well_formed_answered d (made.Event e) range ok = well_formed_step d e range ok
-well_formed_answered d (made.Refused r) range ok = ok
+well_formed_answered d (Ok e) range ok = well_formed_step d e range ok
+well_formed_answered d (Err r) range ok = ok
 
 -- ---- an event of one channel leaves the other channel's record exactly as it was, save a reset
 abbrev pub other_side : Side → Side
@@ -226,6 +223,6 @@ unfolding named_step touched_at
 other_channel_alone d at t kept = rw kept (other_kept d at (touched_by (channel_at d at) t))
 
 -- ---- a refused event leaves the device unchanged, and is answered by its refusal
-pub refused_unchanged : (d : Device) (m : Made) (r : Refusal) → m ≡ made.Refused r → answered_of d m ≡ record { device = d; answer = answer.Refused r }
+pub refused_unchanged : (d : Device) (m : Made) (r : Refusal) → m ≡ Err r → answered_of d m ≡ record { device = d; answer = Err r }
 unfolding answered_of
 refused_unchanged d m r h = rw h

@@ -1,13 +1,12 @@
 -- Laws: both channels are settled in a new device and after every event, so that a look leaves the device exactly as it is.
-use Rattle.std.specs.Prelude.{ℕ, ◌≡◌, false}
+use Rattle.std.specs.Prelude.{ℕ, ◌≡◌, false, Ok, Err}
 use Rattle.std.proofs.Math.Path.{refl}
 use Rattle.bits.specs.Choice.{pick_by}
 use Rattle.bits.specs.Bits.{bit_at, part_at}
 use Rattle.queue.specs.Queue.{clears_all, after_of}
 use Rattle.event.specs.declared.events.Event.{Event}
 use Rattle.event.specs.declared.events.Event.TheVariants as event
-use Rattle.event.specs.declared.events.Made.{Made}
-use Rattle.event.specs.declared.events.Made.TheVariants as made
+use Rattle.event.specs.Events.{Made}
 use Rattle.event.specs.declared.events.Touch.{Touch}
 use Rattle.event.specs.declared.events.Touch.TheVariants as touch
 use Rattle.registers.specs.declared.register.Register.TheVariants as register
@@ -70,8 +69,8 @@ settled_step d event.IrqLook h = h
 
 pub settled_answered : (d : Device) (m : Made) → Settled d → Settled (answered_of d m).device
 unfolding answered_of
-settled_answered d (made.Event e) h = settled_step d e h
-settled_answered d (made.Refused r) h = h
+settled_answered d (Ok e) h = settled_step d e h
+settled_answered d (Err r) h = h
 
 -- ---- what leaves the channel that it names as it is, leaves the device as it is
 same_with : (d : Device) (at : Side) → with_channel d at (channel_at d at) ≡ d

@@ -2,14 +2,13 @@
 ghost use Rattle.std.specs.Prelude.{◌≡◌};
 ghost use Rattle.event.specs.Events.{TouchIn, InRange, event_of, judged_of};
 ghost use Rattle.channel.specs.Channel.{WellFormed as ChannelWellFormed};
-ghost use Rattle.device.specs.Device.{WellFormed, given_for, named_step, irq_of, step_of, answered_of, answer_number};
+ghost use Rattle.device.specs.Device.{WellFormed, channel_at, with_channel, given_for, named_step, irq_of, step_of, answered_of, answer_number};
 ghost use Rattle.device.specs.Laws.{MadeIn};
 
-use crate::side::{Side, numbered};
+use crate::side::Side;
 use acts::step;
-use bits::one_if;
 use channel::Channel;
-use event::{Event, Made, Refusal, Touch, event_of, refused_answer};
+use event::{Event, Refusal, Touch, event_of, refused_answer};
 
 #[repr(C)]
 #[derive(Clone, Copy)]
@@ -25,12 +24,8 @@ pub struct Stepped {
     pub reply: u16,
 }
 
-// What an event is answered with.
-#[derive(Clone, Copy)]
-pub enum Answer {
-    Reply(u16),
-    Refused(Refusal),
-}
+// What an event is answered with: the reply, or why it is refused.
+pub type Answer = Result<u16, Refusal>;
 
 #[derive(Clone, Copy)]
 pub struct Outcome {
@@ -38,19 +33,19 @@ pub struct Outcome {
     pub answer: Answer,
 }
 
-impl Answer {
-    // The answer as one number: the reply, or the refusal above all replies.
-    pub fn number(self) -> u32
-        ensures { result ≡ answer_number self }
-    {
-        match self {
-            Answer::Reply(reply) => reply as u32,
-            Answer::Refused(refusal) => refused_answer(refusal.number()),
-        }
+// An answer as one number: the reply, or the refusal above all replies.
+#[tactic(auto, unfolding(crate::specs::Device::answer_number))]
+pub fn answer_number(answer: Answer) -> u32
+    ensures { result ≡ answer_number answer }
+{
+    match answer {
+        Ok(reply) => u32::from(reply),
+        Err(refusal) => refused_answer(refusal.number()),
     }
 }
 
 // Whether either of two channels has an interrupt pending.
+#[tactic(auto, unfolding(crate::specs::Device::irq_of))]
 pub fn irq(a: Channel, b: Channel) -> bool
     requires { ChannelWellFormed a × ChannelWellFormed b }
     ensures { result ≡ irq_of a b }
@@ -60,80 +55,86 @@ pub fn irq(a: Channel, b: Channel) -> bool
 
 impl Device {
     // With the reply, and reset if the event resets the device.
+    #[tactic(auto, unfolding(crate::specs::Device::given_for))]
     fn given(self, resets: bool, reply: u16) -> Stepped
         ensures { result ≡ given_for self resets reply }
     {
-        if resets {
-            return Stepped {
-                device: self.reset(),
-                reply: reply,
-            };
-        }
-        Stepped {
-            device: self,
-            reply: reply,
+        let device = if resets { self.reset() } else { self };
+        Stepped { device, reply }
+    }
+
+    fn channel(self, side: Side) -> Channel
+        ensures { result ≡ channel_at self side }
+    {
+        match side {
+            Side::A => self.a,
+            Side::B => self.b,
         }
     }
 
-    // The step on an event that names a channel; the other channel stays as it was.
+    // With another record in a channel's place; the other channel stays as it was.
+    fn with_channel(self, side: Side, channel: Channel) -> Device
+        ensures { result ≡ with_channel self side channel }
+    {
+        match side {
+            Side::A => Device { a: channel, ..self },
+            Side::B => Device { b: channel, ..self },
+        }
+    }
+
+    // The step on an event that names a channel.
+    #[tactic(auto, using(crate::specs::Laws::well_formed_at, acts::specs::Laws::step_in, crate::specs::Laws::named_in_turn))]
     fn named(self, side: Side, touch: Touch) -> Stepped
         requires { WellFormed self × TouchIn touch }
         ensures { result ≡ named_step self side touch }
     {
-        let mut device = self;
-        match side {
-            Side::A => {
-                let step = step(self.a, touch);
-                device.a = self.a.after(step);
-                device.given(step.resets, step.reply)
-            }
-            Side::B => {
-                let step = step(self.b, touch);
-                device.b = self.b.after(step);
-                device.given(step.resets, step.reply)
-            }
-        }
+        let channel = self.channel(side);
+        let step = step(channel, touch);
+        let device = self.with_channel(side, channel.after(step));
+        device.given(step.resets, step.reply)
     }
 
     // The step on an event whose values are in range.
+    #[tactic(auto, using(bits::specs::Conditions::from_one_if), unfolding(crate::specs::Device::step_of))]
     fn stepped(self, event: Event) -> Stepped
         requires { WellFormed self × InRange event }
         ensures { result ≡ step_of self event }
     {
         match event {
-            Event::At { channel, touch } => self.named(numbered(channel), touch),
+            Event::At { channel, touch } => self.named(Side::from(channel), touch),
             Event::Reset => Stepped {
                 device: self.reset(),
                 reply: 0,
             },
             Event::IrqLook => Stepped {
                 device: self,
-                reply: one_if(irq(self.a, self.b)) as u16,
+                reply: u16::from(irq(self.a, self.b)),
             },
         }
     }
 
-    fn answered(self, made: Made) -> Outcome
+    #[tactic(auto, unfolding(crate::specs::Device::answered_of))]
+    fn answered(self, made: Result<Event, Refusal>) -> Outcome
         requires { WellFormed self × MadeIn made }
         ensures { result ≡ answered_of self made }
     {
         match made {
-            Made::Event(event) => {
+            Ok(event) => {
                 let done = self.stepped(event);
-                let now = done.device;
                 Outcome {
-                    device: now,
-                    answer: Answer::Reply(done.reply),
+                    device: done.device,
+                    answer: Ok(done.reply),
                 }
             }
-            Made::Refused(refusal) => Outcome {
+            Err(refusal) => Outcome {
                 device: self,
-                answer: Answer::Refused(refusal),
+                answer: Err(refusal),
             },
         }
     }
 
     // The step on an event, refused where one of its values is out of range.
+    #[tactic(auto, using(crate::specs::Laws::judged_in))]
     pub fn step(self, event: Event) -> Outcome
         requires { WellFormed self }
         ensures { result ≡ answered_of self (judged_of event) }
@@ -142,6 +143,7 @@ impl Device {
     }
 
     // The step from plain numbers.
+    #[tactic(auto, using(crate::specs::Laws::made_in))]
     pub fn step_numbers(self, kind: u64, x: u64, y: u64, z: u64) -> Outcome
         requires { WellFormed self }
         ensures { result ≡ answered_of self (event_of kind x y z) }

@@ -5,5 +5,5 @@ mod device;
 mod reset;
 mod side;
 
-pub use device::{Answer, Device, Outcome, irq};
+pub use device::{Answer, Device, Outcome, answer_number, irq};
 pub use side::Side;

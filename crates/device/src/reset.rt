@@ -32,16 +32,19 @@ impl Device {
     pub const NEW_BYTE: u8 = 0;
 
     // A new device: a reset one, every byte that a reset keeps and the pins 0.
+    #[tactic(auto, unfolding(crate::specs::Reset::new_device))]
     pub fn new() -> Device
         ensures { result ≡ new_device }
     {
-        let a = blank_channel();
-        let b = blank_channel();
-        let blank = Device { a: a, b: b };
+        let blank = Device {
+            a: blank_channel(),
+            b: blank_channel(),
+        };
         blank.reset()
     }
 
     // Both channels reset.
+    #[tactic(auto, unfolding(crate::specs::Reset::reset_device))]
     pub fn reset(self) -> Device
         ensures { result ≡ reset_device self }
     {
@@ -52,6 +55,8 @@ impl Device {
     }
 }
 
+// SPR, DLL, DLH, XON and XOFF are kept.
+#[tactic(auto, unfolding(crate::specs::Reset::settings_reset))]
 fn reset_settings(settings: Settings) -> Settings
     ensures { result ≡ settings_reset settings }
 {
@@ -60,58 +65,49 @@ fn reset_settings(settings: Settings) -> Settings
         ier: Device::RESET_REGISTER,
         fcr: Device::RESET_REGISTER,
         mcr: Device::RESET_REGISTER,
-        spr: settings.spr,
         efr: Device::RESET_REGISTER,
         efcr: Device::RESET_REGISTER,
         tcr: Device::RESET_REGISTER,
         tlr: Device::RESET_REGISTER,
-        dll: settings.dll,
-        dlh: settings.dlh,
-        xon1: settings.xon1,
-        xon2: settings.xon2,
-        xoff1: settings.xoff1,
-        xoff2: settings.xoff2,
+        ..settings
     }
 }
 
 // The lines after a reset, beside pins that stay.
+#[tactic(auto, unfolding(crate::specs::Reset::lines_reset))]
 fn reset_lines(pins: u8) -> State
     ensures { result ≡ lines_reset pins }
 {
-    let line = Line {
-        overrun: Device::RESET_FLAG,
-        quiet: Device::RESET_COUNT,
-    };
-    let shift = Shift {
-        full: Device::RESET_FLAG,
-        byte: Device::RESET_COUNT,
-    };
-    let modem = Modem {
-        pins: pins,
-        changes: Device::RESET_COUNT,
-    };
-    let flags = Flags {
-        special: Device::RESET_FLAG,
-        cts: Device::RESET_FLAG,
-        rts: Device::RESET_FLAG,
-        thr: Device::RESET_THR_FLAG,
-    };
-    let flow = Flow {
-        stopped: Device::RESET_FLAG,
-        latch: Device::RESET_LATCH,
-        waits: Device::RESET_FLAG,
-        byte: Device::RESET_COUNT,
-    };
     State {
-        line: line,
-        shift: shift,
-        modem: modem,
-        flags: flags,
+        line: Line {
+            overrun: Device::RESET_FLAG,
+            quiet: Device::RESET_COUNT,
+        },
+        shift: Shift {
+            full: Device::RESET_FLAG,
+            byte: Device::RESET_COUNT,
+        },
+        modem: Modem {
+            pins,
+            changes: Device::RESET_COUNT,
+        },
+        flags: Flags {
+            special: Device::RESET_FLAG,
+            cts: Device::RESET_FLAG,
+            rts: Device::RESET_FLAG,
+            thr: Device::RESET_THR_FLAG,
+        },
         latch: Device::RESET_LATCH,
-        flow: flow,
+        flow: Flow {
+            stopped: Device::RESET_FLAG,
+            latch: Device::RESET_LATCH,
+            waits: Device::RESET_FLAG,
+            byte: Device::RESET_COUNT,
+        },
     }
 }
 
+#[tactic(auto, unfolding(crate::specs::Reset::reset_of, queue::specs::Queue::clears_all))]
 fn reset_channel(channel: Channel) -> Channel
     ensures { result ≡ reset_of channel }
 {
@@ -123,6 +119,7 @@ fn reset_channel(channel: Channel) -> Channel
     }
 }
 
+#[tactic(auto, unfolding(crate::specs::Reset::blank_settings))]
 fn blank_settings() -> Settings
     ensures { result ≡ blank_settings }
 {
@@ -146,6 +143,7 @@ fn blank_settings() -> Settings
 }
 
 // A channel of zeros that a reset makes a new one of.
+#[tactic(auto, unfolding(crate::specs::Reset::blank_channel))]
 fn blank_channel() -> Channel
     ensures { result ≡ blank_channel }
 {

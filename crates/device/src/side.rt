@@ -2,18 +2,18 @@
 ghost use Rattle.std.specs.Prelude.{◌≡◌};
 ghost use Rattle.device.specs.Device.{side_numbered};
 
-#[derive(Clone, Copy)]
+#[derive(Clone, Copy, PartialEq, Eq)]
 pub enum Side {
     A,
     B,
 }
 
 // The channel of a number: 0, or else 1.
-pub fn numbered(channel: u8) -> Side
-    ensures { result ≡ side_numbered channel }
-{
-    if channel == 0 {
-        return Side::A;
+impl From<u8> for Side {
+    ghost from_gives = { λ channel side. side ≡ side_numbered channel };
+
+    #[tactic(auto, unfolding(crate::specs::Device::side_numbered))]
+    fn from(channel: u8) -> Side {
+        if channel == 0 { Side::A } else { Side::B }
     }
-    Side::B
 }

@@ -1,60 +1,63 @@
 -- Definitions: "Events and replies": the nine kinds with their operands, made from plain numbers.
-use Rattle.std.specs.Prelude.{ℕ, ◌<◌, Bool, [], ◌∷◌, get_or, eqb, ltb}
+use Rattle.std.specs.Prelude.{ℕ, ◌<◌, Bool, eqb, ltb, Result, Ok, Err}
 use Rattle.bits.specs.Choice.{pick}
+use Rattle.event.specs.declared.refusal.Refusal.{Refusal}
 use Rattle.event.specs.declared.refusal.Refusal.TheVariants as refusal
 use Rattle.event.specs.declared.events.Touch.{Touch}
 use Rattle.event.specs.declared.events.Touch.TheVariants as touch
 use Rattle.event.specs.declared.events.Event.{Event}
 use Rattle.event.specs.declared.events.Event.TheVariants as event
-use Rattle.event.specs.declared.events.Made.{Made}
-use Rattle.event.specs.declared.events.Made.TheVariants as made
 
--- the column "operands" of the table of kinds, counted
-abbrev pub operand_count : ℕ → ℕ
-operand_count kind = get_or (3 ∷ 2 ∷ 3 ∷ 1 ∷ 2 ∷ 1 ∷ 0 ∷ 0 ∷ 1 ∷ []) kind 0
+-- what numbers come to: an event with its values in range, or a refusal
+abbrev pub Made : Type 0
+Made = Result Event Refusal
 
 -- 3: "kind above 8"
 abbrev pub unknown_kind : ℕ → Bool
 unknown_kind kind = ltb 8 kind
 
+-- an operand above the most that it may be is refused, whatever comes after it
+abbrev pub up_to : {A : Type 0} → ℕ → Refusal → ℕ → Result A Refusal → Result A Refusal
+up_to most why operand else_made = pick (ltb most operand) (Err why) else_made
+
 -- the refusals that an operand out of its range meets, 4 to 8
-abbrev pub channel_in : ℕ → Made → Made
-channel_in channel else_made = pick (ltb 1 channel) (made.Refused refusal.Channel) else_made
+abbrev pub channel_in : {A : Type 0} → ℕ → Result A Refusal → Result A Refusal
+channel_in = up_to 1 refusal.Channel
 
-abbrev pub address_in : ℕ → Made → Made
-address_in address else_made = pick (ltb 15 address) (made.Refused refusal.Address) else_made
+abbrev pub address_in : {A : Type 0} → ℕ → Result A Refusal → Result A Refusal
+address_in = up_to 15 refusal.Address
 
-abbrev pub byte_in : ℕ → Made → Made
-byte_in byte else_made = pick (ltb 255 byte) (made.Refused refusal.Byte) else_made
+abbrev pub byte_in : {A : Type 0} → ℕ → Result A Refusal → Result A Refusal
+byte_in = up_to 255 refusal.Byte
 
-abbrev pub mark_in : ℕ → Made → Made
-mark_in mark else_made = pick (ltb 7 mark) (made.Refused refusal.Mark) else_made
+abbrev pub mark_in : {A : Type 0} → ℕ → Result A Refusal → Result A Refusal
+mark_in = up_to 7 refusal.Mark
 
-abbrev pub pins_in : ℕ → Made → Made
-pins_in value else_made = pick (ltb 15 value) (made.Refused refusal.Pins) else_made
+abbrev pub pins_in : {A : Type 0} → ℕ → Result A Refusal → Result A Refusal
+pins_in = up_to 15 refusal.Pins
 
 -- the event of what happens at a channel
-abbrev pub event_at : ℕ → Touch → Made
-event_at channel t = made.Event (event.At channel t)
+abbrev pub event_at : ℕ → Result Touch Refusal → Made
+event_at channel (Ok t) = Ok (event.At channel t)
+event_at channel (Err why) = Err why
 
--- the event of a kind that names a channel, by its further operands
-unfoldable pub on_channel : ℕ → ℕ → ℕ → ℕ → Made
-on_channel kind channel y z =
-    pick (eqb kind 0) (address_in y (byte_in z (event_at channel (touch.Write y z))))
-    (pick (eqb kind 1) (address_in y (event_at channel (touch.Read y)))
-    (pick (eqb kind 2) (byte_in y (mark_in z (event_at channel (touch.Arrival y z))))
-    (pick (eqb kind 3) (event_at channel touch.Slot)
-    (pick (eqb kind 4) (pins_in y (event_at channel (touch.Pins y)))
-    (pick (eqb kind 5) (event_at channel touch.Quiet)
-    (event_at channel touch.RtsLook))))))
+-- what happens by a kind that names a channel, by its further operands
+unfoldable pub touch_of : ℕ → ℕ → ℕ → Result Touch Refusal
+touch_of kind y z =
+    pick (eqb kind 0) (address_in y (byte_in z (Ok (touch.Write y z))))
+    (pick (eqb kind 1) (address_in y (Ok (touch.Read y)))
+    (pick (eqb kind 2) (byte_in y (mark_in z (Ok (touch.Arrival y z))))
+    (pick (eqb kind 3) (Ok touch.Slot)
+    (pick (eqb kind 4) (pins_in y (Ok (touch.Pins y)))
+    (pick (eqb kind 5) (Ok touch.Quiet) (Ok touch.RtsLook))))))
 
 -- "judge 3 and then 4 to 8; operands that the kind lacks aren't looked at"
 unfoldable pub event_of : ℕ → ℕ → ℕ → ℕ → Made
 event_of kind x y z =
-    pick (unknown_kind kind) (made.Refused refusal.Kind)
-    (pick (eqb kind 6) (made.Event event.Reset)
-    (pick (eqb kind 7) (made.Event event.IrqLook)
-    (channel_in x (on_channel kind x y z))))
+    pick (unknown_kind kind) (Err refusal.Kind)
+    (pick (eqb kind 6) (Ok event.Reset)
+    (pick (eqb kind 7) (Ok event.IrqLook)
+    (channel_in x (event_at x (touch_of kind y z)))))
 
 -- an event's own numbers: its kind, and its operands with 0 for those that the kind lacks
 pub record Numbers : Type 0 where
@@ -80,6 +83,10 @@ numbers_of event.IrqLook = record { kind = 7; x = 0; y = 0; z = 0 }
 -- what numbers come to
 abbrev pub made_of : Numbers → Made
 made_of n = event_of n.kind n.x n.y n.z
+
+-- what happens judged by its own numbers: itself, or its refusal
+unfoldable pub touch_judged : Touch → Result Touch Refusal
+touch_judged t = touch_of (numbers_at 0 t).kind (numbers_at 0 t).y (numbers_at 0 t).z
 
 -- an event judged by its own numbers: itself, or its refusal
 unfoldable pub judged_of : Event → Made

@@ -1,6 +1,6 @@
--- Laws: refusals told apart by their numbers, what plain numbers come to, and that an event in range is the one that its own numbers
+-- Laws: refusals and kinds told apart by their numbers, what plain numbers come to, and that an event in range is the one that its own numbers
 -- make.
-use Rattle.std.specs.Prelude.{ℕ, ◌<◌, ◌≤◌, ◌≡◌, refl, Bool, List, [], ◌∷◌, get_or, eqb, ltb}
+use Rattle.std.specs.Prelude.{ℕ, ◌<◌, ◌≤◌, ◌≡◌, refl, Bool, List, [], ◌∷◌, get_or, eqb, ltb, Result, Ok, Err}
 use native.Mathlib.Omega.{arith}
 use Rattle.std.proofs.Common.{sym, ap, ◌∙◌, le-ltb, eqb-true, ltb-true, ltb-false}
 use Rattle.std.proofs.lemmas.Bool.{eqb-false}
@@ -11,10 +11,11 @@ use Rattle.event.specs.declared.events.Touch.{Touch}
 use Rattle.event.specs.declared.events.Touch.TheVariants as touch
 use Rattle.event.specs.declared.events.Event.{Event}
 use Rattle.event.specs.declared.events.Event.TheVariants as event
-use Rattle.event.specs.declared.events.Made.{Made}
-use Rattle.event.specs.declared.events.Made.TheVariants as made
 use Rattle.event.specs.Refusals.{refusal_number}
-use Rattle.event.specs.Events.{operand_count, on_channel, event_of, Numbers, numbers_of, judged_of, InRange}
+use Rattle.event.specs.declared.kind.Kind.{Kind}
+use Rattle.event.specs.declared.kind.Kind.TheVariants as kind
+use Rattle.event.specs.Kinds.{kind_number, NamedBy, operand_count}
+use Rattle.event.specs.Events.{Made, event_at, touch_of, event_of, Numbers, numbers_of, judged_of, InRange}
 
 -- ---- no refusal has the number 0
 pub refusal_some : (r : Refusal) → 0 < refusal_number r
@@ -48,6 +49,40 @@ found_by_number refusal.Long = refl
 pub refusal_is : (r q : Refusal) → refusal_number r ≡ refusal_number q → r ≡ q
 refusal_is r q same = found_by_number r ∙ ap (λ (n : ℕ). get_or by_number n refusal.Long) same ∙ sym (found_by_number q)
 
+-- ---- two kinds of one number are one, so that a number names one kind or none
+abbrev kinds : List Kind
+kinds =
+    kind.Write ∷ kind.Read ∷ kind.Arrival ∷ kind.Slot ∷ kind.Pins ∷ kind.Quiet ∷ kind.Reset ∷ kind.IrqLook ∷ kind.RtsLook ∷ []
+
+named_in_kinds : (k : Kind) → k ≡ get_or kinds (kind_number k) kind.Write
+named_in_kinds kind.Write = refl
+named_in_kinds kind.Read = refl
+named_in_kinds kind.Arrival = refl
+named_in_kinds kind.Slot = refl
+named_in_kinds kind.Pins = refl
+named_in_kinds kind.Quiet = refl
+named_in_kinds kind.Reset = refl
+named_in_kinds kind.IrqLook = refl
+named_in_kinds kind.RtsLook = refl
+
+kind_known : (k : Kind) → kind_number k ≤ 8
+kind_known kind.Write = omega arith
+kind_known kind.Read = omega arith
+kind_known kind.Arrival = omega arith
+kind_known kind.Slot = omega arith
+kind_known kind.Pins = omega arith
+kind_known kind.Quiet = omega arith
+kind_known kind.Reset = omega arith
+kind_known kind.IrqLook = omega arith
+kind_known kind.RtsLook = omega arith
+
+pub named_once : (number : ℕ) (one other : Result Kind Refusal) → NamedBy number one → NamedBy number other → one ≡ other
+named_once number (Ok k) (Ok j) one other =
+    ap Ok (named_in_kinds k ∙ ap (λ (n : ℕ). get_or kinds n kind.Write) (one ∙ sym other) ∙ sym (named_in_kinds j))
+named_once number (Ok k) (Err r) one other = absurd (omega (arith, kind_known k, one, other.0))
+named_once number (Err r) (Ok k) one other = absurd (omega (arith, kind_known k, one.0, other))
+named_once number (Err r) (Err q) one other = ap Err (one.1 ∙ sym other.1)
+
 -- the numbers that are looked at: 0 for the operands that the kind lacks
 abbrev pub looked_at : Numbers → Numbers
 looked_at n = record {
@@ -59,38 +94,42 @@ looked_at n = record {
 
 -- ---- what numbers come to: an event in range whose own numbers are those that are looked at, or a refusal of 3 for the kind and of 4 to 8 for an operand
 abbrev pub MadeOf : Numbers → Made → Type 0
-MadeOf n (made.Event e) = InRange e × (numbers_of e ≡ looked_at n)
-MadeOf n (made.Refused r) = (n.kind ≤ 8 → 4 ≤ refusal_number r) × (refusal_number r ≤ 8)
+MadeOf n (Ok e) = InRange e × (numbers_of e ≡ looked_at n)
+MadeOf n (Err r) = (n.kind ≤ 8 → 4 ≤ refusal_number r) × (refusal_number r ≤ 8)
 
-module _ (P : Made → Type 0) where
-  within : (limit n : ℕ) {r : Refusal} {m : Made} → (limit < n → P (made.Refused r)) → (n ≤ limit → P m)
-      → P (pick (ltb limit n) (made.Refused r) m)
+module _ {A : Type 0} (P : Result A Refusal → Type 0) where
+  within : (limit n : ℕ) {r : Refusal} {m : Result A Refusal} → (limit < n → P (Err r)) → (n ≤ limit → P m)
+      → P (pick (ltb limit n) (Err r) m)
   within limit n f g = pick_by P (ltb limit n) (λ h. f (ltb-true limit n h)) (λ h. g (ltb-false limit n h))
 
-  of_kind : (kind k : ℕ) {m rest : Made} → (kind ≡ k → P m) → ((kind ≡ k → ⊥) → P rest) → P (pick (eqb kind k) m rest)
+  of_kind : (kind k : ℕ) {m rest : Result A Refusal} → (kind ≡ k → P m) → ((kind ≡ k → ⊥) → P rest) → P (pick (eqb kind k) m rest)
   of_kind kind k f g = pick_by P (eqb kind k) (λ h. f (eqb-true kind k h)) (λ h. g (eqb-false kind k h))
 
-  in_turn : (kind k : ℕ) {m rest : Made} → k ≤ kind → (kind ≡ k → P m) → (k < kind → P rest) → P (pick (eqb kind k) m rest)
+  in_turn : (kind k : ℕ) {m rest : Result A Refusal} → k ≤ kind → (kind ≡ k → P m) → (k < kind → P rest) → P (pick (eqb kind k) m rest)
   in_turn kind k from f g = of_kind kind k f (λ other. g (omega arith))
 
 module _ (kind x y z : ℕ) where
   abbrev P : Made → Type 0
   P = MadeOf (record { kind = kind; x = x; y = y; z = z })
 
-  on_channel_made : kind ≤ 8 → (kind ≡ 6 → ⊥) → (kind ≡ 7 → ⊥) → x ≤ 1 → P (on_channel kind x y z)
-  unfolding on_channel
-  on_channel_made known not_6 not_7 channel =
-      in_turn P kind 0 (omega arith)
-      (λ k. within P 15 y (λ _. omega arith) (λ address. within P 255 z (λ _. omega arith) (λ byte. (omega arith, simp k))))
-      (λ from. in_turn P kind 1 from
-      (λ k. within P 15 y (λ _. omega arith) (λ address. (omega arith, simp k)))
-      (λ from. in_turn P kind 2 from
-      (λ k. within P 255 y (λ _. omega arith) (λ byte. within P 7 z (λ _. omega arith) (λ mark. (omega arith, simp k))))
-      (λ from. in_turn P kind 3 from
+  -- and of what happens at the channel
+  abbrev At : Result Touch Refusal → Type 0
+  At t = P (event_at x t)
+
+  touch_of_made : kind ≤ 8 → (kind ≡ 6 → ⊥) → (kind ≡ 7 → ⊥) → x ≤ 1 → At (touch_of kind y z)
+  unfolding touch_of
+  touch_of_made known not_6 not_7 channel =
+      in_turn At kind 0 (omega arith)
+      (λ k. within At 15 y (λ _. omega arith) (λ address. within At 255 z (λ _. omega arith) (λ byte. (omega arith, simp k))))
+      (λ from. in_turn At kind 1 from
+      (λ k. within At 15 y (λ _. omega arith) (λ address. (omega arith, simp k)))
+      (λ from. in_turn At kind 2 from
+      (λ k. within At 255 y (λ _. omega arith) (λ byte. within At 7 z (λ _. omega arith) (λ mark. (omega arith, simp k))))
+      (λ from. in_turn At kind 3 from
       (λ k. (omega arith, simp k))
-      (λ from. in_turn P kind 4 from
-      (λ k. within P 15 y (λ _. omega arith) (λ value. (omega arith, simp k)))
-      (λ from. in_turn P kind 5 from
+      (λ from. in_turn At kind 4 from
+      (λ k. within At 15 y (λ _. omega arith) (λ value. (omega arith, simp k)))
+      (λ from. in_turn At kind 5 from
       (λ k. (omega arith, simp k))
       (λ from. let k : kind ≡ 8 = omega arith in (omega arith, simp k)))))))
 
@@ -100,9 +139,9 @@ module _ (kind x y z : ℕ) where
       within P 8 kind (λ unknown. omega arith)
       (λ known. of_kind P kind 6 (λ k. (tt, simp k))
       (λ not_6. of_kind P kind 7 (λ k. (tt, simp k))
-      (λ not_7. within P 1 x (λ _. omega arith) (λ channel. on_channel_made known not_6 not_7 channel))))
+      (λ not_7. within P 1 x (λ _. omega arith) (λ channel. touch_of_made known not_6 not_7 channel))))
 
-  pub made_in_range : {e : Event} → event_of kind x y z ≡ made.Event e → InRange e
+  pub made_in_range : {e : Event} → event_of kind x y z ≡ Ok e → InRange e
   made_in_range made = (rw made at made_of_lem).0
 
 -- an operand as an event holds it: within two groups of a file, and 0 where the kind has none
@@ -118,10 +157,10 @@ Small n =
     × Operand (ltb 2 (operand_count n.kind)) n.z
 
 abbrev Known : Event → Type 0
-Known e = (judged_of e ≡ made.Event e) × Small (numbers_of e)
+Known e = (judged_of e ≡ Ok e) × Small (numbers_of e)
 
 touch_known : (channel : ℕ) (t : Touch) → InRange (event.At channel t) → Known (event.At channel t)
-unfolding judged_of event_of on_channel
+unfolding judged_of event_of touch_of
 touch_known channel (touch.Write address byte) range =
     (rw (le-ltb 1 channel (omega arith), le-ltb 15 address (omega arith), le-ltb 255 byte (omega arith)), omega arith)
 touch_known channel (touch.Read address) range = (rw (le-ltb 1 channel (omega arith), le-ltb 15 address (omega arith)), omega arith)
@@ -138,5 +177,5 @@ in_range_known (event.At channel t) range = touch_known channel t range
 in_range_known event.Reset range = (refl, omega arith)
 in_range_known event.IrqLook range = (refl, omega arith)
 
-pub in_range_judged : (e : Event) → InRange e → judged_of e ≡ made.Event e
+pub in_range_judged : (e : Event) → InRange e → judged_of e ≡ Ok e
 in_range_judged e range = (in_range_known e range).0

@@ -1,7 +1,9 @@
-// The nine kinds of event, and an event made from plain numbers.
-ghost use Rattle.std.specs.Prelude.{◌≡◌};
-ghost use Rattle.event.specs.Events.{event_at, on_channel, event_of, judged_of, address_in, byte_in, mark_in, pins_in};
+// Events, and an event made from plain numbers.
+ghost use Rattle.std.specs.Prelude.{◌≡◌, Ok};
+ghost use Rattle.event.specs.declared.events.Touch.TheVariants as touch;
+ghost use Rattle.event.specs.Events.{event_at, event_of, judged_of, touch_judged, channel_in, address_in, byte_in, mark_in, pins_in, up_to};
 
+use crate::kind::Kind;
 use crate::refusal::Refusal;
 
 // What happens at the channel that an event names.
@@ -24,129 +26,104 @@ pub enum Event {
     IrqLook,
 }
 
-// What numbers come to: an event with its values in range, or a refusal.
-#[derive(Clone, Copy)]
-pub enum Made {
-    Event(Event),
-    Refused(Refusal),
+// An operand in its range, else its refusal.
+fn in_range(operand: u64, most: u8, refusal: Refusal) -> Result<u8, Refusal>
+    ensures { result ≡ up_to most refusal operand (Ok operand) }
+{
+    if u64::from(most) < operand {
+        return Err(refusal);
+    }
+    Ok(operand as u8)
 }
 
-fn at(channel: u8, touch: Touch) -> Made
-    ensures { result ≡ event_at channel touch }
+fn write(address: u64, byte: u64) -> Result<Touch, Refusal>
+    ensures { result ≡ address_in address (byte_in byte (Ok (touch.Write address byte))) }
 {
-    Made::Event(Event::At {
-        channel: channel,
-        touch: touch,
+    Ok(Touch::Write {
+        address: in_range(address, 15, Refusal::Address)?,
+        byte: in_range(byte, 255, Refusal::Byte)?,
     })
 }
 
-fn write(channel: u8, address: u64, byte: u64) -> Made
-    ensures { result ≡ address_in address (byte_in byte (event_at channel (Touch.Write address byte))) }
+fn read(address: u64) -> Result<Touch, Refusal>
+    ensures { result ≡ address_in address (Ok (touch.Read address)) }
 {
-    if 15 < address {
-        return Made::Refused(Refusal::Address);
-    }
-    if 255 < byte {
-        return Made::Refused(Refusal::Byte);
-    }
-    let touch = Touch::Write {
-        address: address as u8,
-        byte: byte as u8,
-    };
-    at(channel, touch)
+    Ok(Touch::Read {
+        address: in_range(address, 15, Refusal::Address)?,
+    })
 }
 
-fn read(channel: u8, address: u64) -> Made
-    ensures { result ≡ address_in address (event_at channel (Touch.Read address)) }
+fn arrival(byte: u64, mark: u64) -> Result<Touch, Refusal>
+    ensures { result ≡ byte_in byte (mark_in mark (Ok (touch.Arrival byte mark))) }
 {
-    if 15 < address {
-        return Made::Refused(Refusal::Address);
-    }
-    let touch = Touch::Read {
-        address: address as u8,
-    };
-    at(channel, touch)
+    Ok(Touch::Arrival {
+        byte: in_range(byte, 255, Refusal::Byte)?,
+        mark: in_range(mark, 7, Refusal::Mark)?,
+    })
 }
 
-fn arrival(channel: u8, byte: u64, mark: u64) -> Made
-    ensures { result ≡ byte_in byte (mark_in mark (event_at channel (Touch.Arrival byte mark))) }
+fn pins(value: u64) -> Result<Touch, Refusal>
+    ensures { result ≡ pins_in value (Ok (touch.Pins value)) }
 {
-    if 255 < byte {
-        return Made::Refused(Refusal::Byte);
-    }
-    if 7 < mark {
-        return Made::Refused(Refusal::Mark);
-    }
-    let touch = Touch::Arrival {
-        byte: byte as u8,
-        mark: mark as u8,
-    };
-    at(channel, touch)
+    Ok(Touch::Pins {
+        value: in_range(value, 15, Refusal::Pins)?,
+    })
 }
 
-fn pins(channel: u8, value: u64) -> Made
-    ensures { result ≡ pins_in value (event_at channel (Touch.Pins value)) }
+// The event at a channel, which is judged first.
+fn at(channel: u64, touch: Result<Touch, Refusal>) -> Result<Event, Refusal>
+    ensures { result ≡ channel_in channel (event_at channel touch) }
 {
-    if 15 < value {
-        return Made::Refused(Refusal::Pins);
-    }
-    at(channel, Touch::Pins { value: value as u8 })
-}
-
-// The event of a kind that names a channel, by its further operands.
-fn on_channel(kind: u64, channel: u8, y: u64, z: u64) -> Made
-    ensures { result ≡ on_channel kind channel y z }
-{
-    match kind {
-        0 => write(channel, y, z),
-        1 => read(channel, y),
-        2 => arrival(channel, y, z),
-        3 => at(channel, Touch::Slot),
-        4 => pins(channel, y),
-        5 => at(channel, Touch::Quiet),
-        _ => at(channel, Touch::RtsLook),
-    }
+    let channel = in_range(channel, 1, Refusal::Channel)?;
+    Ok(Event::At {
+        channel,
+        touch: touch?,
+    })
 }
 
 // The event of a kind and its operands; those that the kind lacks are not looked at.
-pub fn event_of(kind: u64, x: u64, y: u64, z: u64) -> Made
+#[tactic(auto, unfolding(crate::specs::Events::event_of, crate::specs::Events::touch_of))]
+pub fn event_of(kind: u64, x: u64, y: u64, z: u64) -> Result<Event, Refusal>
     ensures { result ≡ event_of kind x y z }
 {
-    if 8 < kind {
-        return Made::Refused(Refusal::Kind);
+    match Kind::try_from(kind)? {
+        Kind::Write => at(x, write(y, z)),
+        Kind::Read => at(x, read(y)),
+        Kind::Arrival => at(x, arrival(y, z)),
+        Kind::Slot => at(x, Ok(Touch::Slot)),
+        Kind::Pins => at(x, pins(y)),
+        Kind::Quiet => at(x, Ok(Touch::Quiet)),
+        Kind::Reset => Ok(Event::Reset),
+        Kind::IrqLook => Ok(Event::IrqLook),
+        Kind::RtsLook => at(x, Ok(Touch::RtsLook)),
     }
-    if kind == 6 {
-        return Made::Event(Event::Reset);
+}
+
+impl Touch {
+    // What happens itself where its values are in range, else its refusal.
+    #[tactic(auto, unfolding(crate::specs::Events::touch_judged, crate::specs::Events::touch_of))]
+    fn judged(self) -> Result<Touch, Refusal>
+        ensures { result ≡ touch_judged self }
+    {
+        match self {
+            Touch::Write { address, byte } => write(u64::from(address), u64::from(byte)),
+            Touch::Read { address } => read(u64::from(address)),
+            Touch::Arrival { byte, mark } => arrival(u64::from(byte), u64::from(mark)),
+            Touch::Pins { value } => pins(u64::from(value)),
+            Touch::Slot | Touch::Quiet | Touch::RtsLook => Ok(self),
+        }
     }
-    if kind == 7 {
-        return Made::Event(Event::IrqLook);
-    }
-    if 1 < x {
-        return Made::Refused(Refusal::Channel);
-    }
-    on_channel(kind, x as u8, y, z)
 }
 
 impl Event {
     // The event itself where its values are in range, else its refusal.
-    pub fn judged(self) -> Made
+    #[tactic(auto, unfolding(crate::specs::Events::judged_of, crate::specs::Events::event_of, crate::specs::Events::touch_judged))]
+    pub fn judged(self) -> Result<Event, Refusal>
         ensures { result ≡ judged_of self }
     {
         match self {
-            Event::At { channel, touch } => {
-                let x = channel as u64;
-                match touch {
-                    Touch::Write { address, byte } => event_of(0, x, address as u64, byte as u64),
-                    Touch::Read { address } => event_of(1, x, address as u64, 0),
-                    Touch::Arrival { byte, mark } => event_of(2, x, byte as u64, mark as u64),
-                    Touch::Slot => event_of(3, x, 0, 0),
-                    Touch::Pins { value } => event_of(4, x, value as u64, 0),
-                    Touch::Quiet => event_of(5, x, 0, 0),
-                    Touch::RtsLook => event_of(8, x, 0, 0),
-                }
-            }
-            Event::Reset => event_of(6, 0, 0, 0),
-            Event::IrqLook => event_of(7, 0, 0, 0),
+            Event::At { channel, touch } => at(u64::from(channel), touch.judged()),
+            Event::Reset | Event::IrqLook => Ok(self),
         }
     }
 }

@@ -2,7 +2,9 @@
 #![tactic(auto)]
 
 mod events;
+mod kind;
 mod refusal;
 
-pub use events::{Event, Made, Touch, event_of};
+pub use events::{Event, Touch, event_of};
+pub use kind::Kind;
 pub use refusal::{Refusal, refused_answer};

@@ -1,13 +1,13 @@
-// Why an event, a number or a whole input is refused.
+// Why an event, a number or a whole input is refused, which document 01 numbers from 1.
 ghost use Rattle.std.specs.Prelude.{◌≡◌};
 ghost use Rattle.event.specs.Refusals.{refusal_number, refused_answer};
 
 // What a refusal's number is added to where an answer is one number.
 const REFUSED: u32 = 512;
 
-#[derive(Clone, Copy)]
+#[derive(Clone, Copy, PartialEq, Eq)]
 pub enum Refusal {
-    Number,
+    Number = 1,
     Short,
     Kind,
     Channel,
@@ -23,17 +23,7 @@ impl Refusal {
     pub fn number(self) -> u8
         ensures { result ≡ refusal_number self }
     {
-        match self {
-            Refusal::Number => 1,
-            Refusal::Short => 2,
-            Refusal::Kind => 3,
-            Refusal::Channel => 4,
-            Refusal::Address => 5,
-            Refusal::Byte => 6,
-            Refusal::Mark => 7,
-            Refusal::Pins => 8,
-            Refusal::Long => 9,
-        }
+        self as u8
     }
 }
 
@@ -41,5 +31,5 @@ impl Refusal {
 pub fn refused_answer(number: u8) -> u32
     ensures { result ≡ refused_answer number }
 {
-    REFUSED + (number as u32)
+    REFUSED + u32::from(number)
 }

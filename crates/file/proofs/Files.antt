@@ -2,19 +2,15 @@
 -- what is written, one event behind the other, is read back, all of it and nothing else.
 use Prim.Native.Nat.{ℕ, zero, suc, ◌+◌, ◌<◌, ◌≤◌}
 use Rattle.std.proofs.Common.{arith, ◌∙◌, le-leb}
-use Rattle.std.specs.Prelude.{◌≡◌, ltb, get_or}
+use Rattle.std.specs.Prelude.{◌≡◌, ltb, get_or, None, Some, Ok, Err}
 use Rattle.std.proofs.Math.Path.{refl, sym, ap}
 use mathlib.Core.List.{List, [], ◌∷◌, map}
 use Rattle.std.proofs.Math.ListN.{length, drop, length-drop, drop_of_length-le}
 use Rattle.bits.specs.Choice.{pick_by}
 use Rattle.event.specs.declared.events.Event.{Event}
-use Rattle.event.specs.declared.events.Made.{Made}
-use Rattle.event.specs.declared.events.Made.TheVariants as made
-use Rattle.event.specs.Events.{Numbers, numbers_of, made_of, judged_of}
+use Rattle.event.specs.Events.{Numbers, numbers_of, made_of, judged_of, Made}
 use Rattle.event.specs.Laws.{in_range_known}
-use Rattle.file.specs.declared.reading.Reading.{Reading}
-use Rattle.file.specs.declared.reading.Reading.TheVariants as reading
-use Rattle.file.specs.Reading.{placed, read_at}
+use Rattle.file.specs.Reading.{Standing, placed, read_at}
 use Rattle.file.specs.Form.{number_bytes}
 use Rattle.file.specs.Whole.{numbers_written, events_written, standing_at, numbers_then, numbers_from, reading_then, history_from, end_then, end_from, numbers_in, history_of, end_of}
 use Rattle.file.specs.Laws.{Bytes, ReadingFrom}
@@ -28,12 +24,11 @@ module _ (s : List ℕ) where
   made_from zero at = refl
   made_from (suc k) at = go (made_from k) (read_at s at) (reading_from s at)
     where
-      go : ((at : ℕ) → history_from k s at ≡ map made_of (numbers_from k s at)) → (r : Reading) → ReadingFrom s at r
+      go : ((at : ℕ) → history_from k s at ≡ map made_of (numbers_from k s at)) → (r : Standing) → ReadingFrom s at r
           → reading_then (history_from k s) r ≡ map made_of (numbers_then (standing_at s at) (numbers_from k s) r)
-      go rest (reading.Event e next) from = rw (rest next) (ap (λ (m : Made). m ∷ map made_of (numbers_from k s next)) (sym from.3.1))
-      go rest (reading.Refused r next) from = rw (rest next) (ap (λ (m : Made). m ∷ map made_of (numbers_from k s next)) (sym from.4.1))
-      go rest (reading.Ended r) from = refl
-      go rest reading.End from = refl
+      go rest (Ok (Some read)) from = rw (rest read.next) (ap (λ (m : Made). m ∷ map made_of (numbers_from k s read.next)) (sym from.3.1))
+      go rest (Err r) from = refl
+      go rest (Ok None) from = refl
 
   pub history_of_numbers : history_of s ≡ map made_of (numbers_in s)
   unfolding numbers_in
@@ -45,12 +40,11 @@ module _ (s : List ℕ) where
   small_from zero at = tt
   small_from (suc k) at = go (small_from k) (read_at s at) (reading_from s at)
     where
-      go : ((at : ℕ) → AllSmall (numbers_from k s at)) → (r : Reading) → ReadingFrom s at r
+      go : ((at : ℕ) → AllSmall (numbers_from k s at)) → (r : Standing) → ReadingFrom s at r
           → AllSmall (numbers_then (standing_at s at) (numbers_from k s) r)
-      go rest (reading.Event e next) from = (from.3.0, rest next)
-      go rest (reading.Refused r next) from = (from.4.0, rest next)
-      go rest (reading.Ended r) from = tt
-      go rest reading.End from = tt
+      go rest (Ok (Some read)) from = (from.3.0, rest read.next)
+      go rest (Err r) from = tt
+      go rest (Ok None) from = tt
 
   pub numbers_in_small : AllSmall (numbers_in s)
   unfolding numbers_in
@@ -63,12 +57,11 @@ module _ (s : List ℕ) where
   written_from bytes (suc k) at few whole = go (written_from bytes k) (read_at s at) (reading_from s at) whole
     where
       go : ((at : ℕ) → length s ≤ at + k → end_from k s at ≡ [] → drop at s ≡ numbers_written (numbers_from k s at))
-          → (r : Reading) → ReadingFrom s at r → end_then (end_from k s) r ≡ []
+          → (r : Standing) → ReadingFrom s at r → end_then (end_from k s) r ≡ []
           → drop at s ≡ numbers_written (numbers_then (standing_at s at) (numbers_from k s) r)
-      go rest (reading.Event e next) from whole = rw (← rest next (omega (arith, from.0)) whole) (from.3.2 bytes)
-      go rest (reading.Refused r next) from whole = rw (← rest next (omega (arith, from.0)) whole) (from.4.2 bytes)
-      go rest (reading.Ended r) from whole = absurd (omega (arith, ap length whole))
-      go rest reading.End from whole = drop_of_length-le s from
+      go rest (Ok (Some read)) from whole = rw (← rest read.next (omega (arith, from.0)) whole) (from.3.2 bytes)
+      go rest (Err r) from whole = absurd (omega (arith, ap length whole))
+      go rest (Ok None) from whole = drop_of_length-le s from
 
   pub file_of_numbers : ReadToItsEnd s → s ≡ numbers_written (numbers_in s)
   unfolding numbers_in
@@ -79,20 +72,20 @@ pub same_numbers_same_file : (s t : List ℕ) → ReadToItsEnd s → ReadToItsEn
 same_numbers_same_file s t whole_s whole_t same = file_of_numbers s whole_s ∙ rw same (sym (file_of_numbers t whole_t))
 
 -- where no event is refused, a file is what the writer writes for the events
-same_written : (numbers : List Numbers) (events : List Event) → map made_of numbers ≡ map made.Event events
+same_written : (numbers : List Numbers) (events : List Event) → map made_of numbers ≡ map Ok events
     → numbers_written numbers ≡ events_written events
 same_written [] [] same = refl
 same_written [] (e ∷ events) same = absurd (omega (arith, ap length same))
 same_written (n ∷ numbers) [] same = absurd (omega (arith, ap length same))
 same_written (n ∷ numbers) (e ∷ events) same =
-    rw (bytes_of_made n e (ap (λ (l : List Made). get_or l 0 (made.Event e)) same), same_written numbers events (ap (drop 1) same))
+    rw (bytes_of_made n e (ap (λ (l : List Made). get_or l 0 (Ok e)) same), same_written numbers events (ap (drop 1) same))
 
-pub file_of_events : (s : List ℕ) (events : List Event) → ReadToItsEnd s → history_of s ≡ map made.Event events → s ≡ events_written events
+pub file_of_events : (s : List ℕ) (events : List Event) → ReadToItsEnd s → history_of s ≡ map Ok events → s ≡ events_written events
 file_of_events s events whole read =
     file_of_numbers s whole ∙ same_written (numbers_in s) events (sym (history_of_numbers s) ∙ read)
 
 pub same_events_same_file : (s t : List ℕ) (events : List Event) → ReadToItsEnd s → ReadToItsEnd t
-    → history_of s ≡ map made.Event events → history_of t ≡ map made.Event events → s ≡ t
+    → history_of s ≡ map Ok events → history_of t ≡ map Ok events → s ≡ t
 same_events_same_file s t events whole_s whole_t read_s read_t =
     file_of_events s events whole_s read_s ∙ sym (file_of_events t events whole_t read_t)
 
@@ -103,7 +96,7 @@ module _ (s : List ℕ) where
   none_past zero at past = refl
   none_past (suc k) at past =
       rw (le-leb (length s) at past)
-      (pick_by (λ (r : Reading). reading_then (history_from k s) r ≡ []) (ltb 65536 (length s)) (λ _. refl) (λ _. refl))
+      (pick_by (λ (r : Standing). reading_then (history_from k s) r ≡ []) (ltb 65536 (length s)) (λ _. refl) (λ _. refl))
 
   same_from : (j k at : ℕ) → length s ≤ at + j → length s ≤ at + k → history_from j s at ≡ history_from k s at
   unfolding history_from
@@ -111,27 +104,17 @@ module _ (s : List ℕ) where
   same_from (suc j) zero at few_j few_k = none_past (suc j) at (omega arith)
   same_from (suc j) (suc k) at few_j few_k = go (same_from j k) (read_at s at) (reading_from s at)
     where
-      go : ((at : ℕ) → length s ≤ at + j → length s ≤ at + k → history_from j s at ≡ history_from k s at) → (r : Reading) → ReadingFrom s at r
+      go : ((at : ℕ) → length s ≤ at + j → length s ≤ at + k → history_from j s at ≡ history_from k s at) → (r : Standing) → ReadingFrom s at r
           → reading_then (history_from j s) r ≡ reading_then (history_from k s) r
-      go same (reading.Event e next) from = rw (same next (omega (arith, from.0)) (omega (arith, from.0)))
-      go same (reading.Refused r next) from = rw (same next (omega (arith, from.0)) (omega (arith, from.0)))
-      go same (reading.Ended r) from = refl
-      go same reading.End from = refl
+      go same (Ok (Some read)) from = rw (same read.next (omega (arith, from.0)) (omega (arith, from.0)))
+      go same (Err r) from = refl
+      go same (Ok None) from = refl
 
   pub every_history_ends : (k : ℕ) → length s ≤ k → history_from k s 0 ≡ history_of s
   every_history_ends k few = same_from k (length s) 0 (omega arith) (omega arith)
 
 -- ---- and what is written one behind the other, up to 65,536 bytes, is read back, all of it and nothing else
 module _ (s : List ℕ) (short : length s ≤ 65536) where
-  placed_inside : (at next : ℕ) (m : Made) → ReadingFrom s at (placed m next) → (at < next) × (next ≤ length s)
-  placed_inside at next (made.Event e) from = (from.0, from.1)
-  placed_inside at next (made.Refused r) from = (from.0, from.1)
-
-  placed_then : (k next : ℕ) (n : Numbers) (m : Made)
-      → (numbers_then n (numbers_from k s) (placed m next) ≡ n ∷ numbers_from k s next) × (end_then (end_from k s) (placed m next) ≡ end_from k s next)
-  placed_then k next n (made.Event e) = (refl, refl)
-  placed_then k next n (made.Refused r) = (refl, refl)
-
   back_from : (numbers : List Numbers) → AllSmall numbers → (k at : ℕ) → length s ≤ at + k → drop at s ≡ numbers_written numbers
       → (numbers_from k s at ≡ numbers) × (end_from k s at ≡ [])
   unfolding numbers_from end_from
@@ -139,8 +122,8 @@ module _ (s : List ℕ) (short : length s ≤ 65536) where
   back_from [] small (suc k) at few stands = rw (past_the_end s at short (omega (arith, length-drop at s, ap length stands))) (refl, refl)
   back_from (n ∷ numbers) small k at few stands =
       let back = numbers_back s at n _ short small.0 stands in
-      let inside = placed_inside at _ (made_of n) (rw back.1 at (reading_from s at)) in
-      go k few (back_from numbers small.1) back inside
+      let from = rw back.1 at (reading_from s at) in
+      go k few (back_from numbers small.1) back (from.0, from.1)
     where
       go : (k : ℕ) → length s ≤ at + k
           → ((k at : ℕ) → length s ≤ at + k → drop at s ≡ numbers_written numbers → (numbers_from k s at ≡ numbers) × (end_from k s at ≡ []))
@@ -150,8 +133,7 @@ module _ (s : List ℕ) (short : length s ≤ 65536) where
       go zero few rest back inside = absurd (omega (arith, inside.0, inside.1))
       go (suc k) few rest back inside =
           let then = rest k (at + length (number_bytes n)) (omega (arith, inside.0)) (list_past s at (number_bytes n) _ stands) in
-          let on = placed_then k (at + length (number_bytes n)) n (made_of n) in
-          rw (back.0, back.1, on.0, on.1) (ap (λ (l : List Numbers). n ∷ l) then.0, then.1)
+          rw (back.0, back.1) (ap (λ (l : List Numbers). n ∷ l) then.0, then.1)
 
 -- so a file that is read to its end and the numbers in it tell each other
 pub written_numbers_read_back : (numbers : List Numbers) → AllSmall numbers → length (numbers_written numbers) ≤ 65536
@@ -161,7 +143,7 @@ written_numbers_read_back numbers small short =
     back_from (numbers_written numbers) short numbers small (length (numbers_written numbers)) 0 (omega arith) refl
 
 their_numbers : (events : List Event) → AllInRange events
-    → AllSmall (map numbers_of events) × (map made_of (map numbers_of events) ≡ map made.Event events)
+    → AllSmall (map numbers_of events) × (map made_of (map numbers_of events) ≡ map Ok events)
 unfolding judged_of
 their_numbers [] range = (tt, refl)
 their_numbers (e ∷ events) range =
@@ -170,7 +152,7 @@ their_numbers (e ∷ events) range =
     ((known.1, rest.0), rw (known.0, rest.1))
 
 pub written_events_read_back : (events : List Event) → AllInRange events → length (events_written events) ≤ 65536
-    → (history_of (events_written events) ≡ map made.Event events) × (end_of (events_written events) ≡ [])
+    → (history_of (events_written events) ≡ map Ok events) × (end_of (events_written events) ≡ [])
 written_events_read_back events range short =
     let numbers : List Numbers = map numbers_of events in
     let known = their_numbers events range in

@@ -1,5 +1,5 @@
 -- Laws: what follows from the definitions of numbers, reading and writing, each thing once over the number or the operand.
-use Rattle.std.specs.Prelude.{ℕ, ◌+◌, ◌*◌, ◌/◌, ◌%◌, ◌<◌, ◌≤◌, ◌≡◌, Bool, ◌||◌, get_or, eqb, ltb, leb}
+use Rattle.std.specs.Prelude.{ℕ, ◌+◌, ◌*◌, ◌/◌, ◌%◌, ◌<◌, ◌≤◌, ◌≡◌, Bool, ◌||◌, get_or, eqb, ltb, leb, Ok, Err, Result, None}
 use Rattle.std.proofs.Common.{add-zero, add-one, sym, ap, ◌∙◌, true≢false, length-drop, length-append, get_or-drop, drop-cons, drop-drop}
 use native.Mathlib.Omega.{arith}
 use Rattle.std.proofs.Math.Path.{refl}
@@ -14,17 +14,14 @@ use Rattle.event.specs.declared.events.Touch.{Touch}
 use Rattle.event.specs.declared.events.Touch.TheVariants as touch
 use Rattle.event.specs.declared.events.Event.{Event}
 use Rattle.event.specs.declared.events.Event.TheVariants as event
-use Rattle.event.specs.declared.events.Made.{Made}
-use Rattle.event.specs.declared.events.Made.TheVariants as made
 use Rattle.event.specs.Refusals.{refusal_number}
-use Rattle.event.specs.Events.{operand_count, event_of, Numbers, made_of, InRange}
+use Rattle.event.specs.Kinds.{operand_count}
+use Rattle.event.specs.Events.{event_of, Numbers, made_of, InRange, Made}
 use Rattle.event.specs.Laws.{MadeOf, made_of_lem, Operand, Small}
+use Rattle.event.specs.declared.refusal.Refusal.{Refusal}
 use Rattle.file.specs.declared.number.Number.{Number}
-use Rattle.file.specs.declared.number.Number.TheVariants as number
-use Rattle.file.specs.declared.reading.Reading.{Reading}
-use Rattle.file.specs.declared.reading.Reading.TheVariants as reading
-use Rattle.file.specs.Numbers.{groups, second_broken, second_at, number_at, operand_at}
-use Rattle.file.specs.Reading.{and_then, placed, operands_at, read_at}
+use Rattle.file.specs.Numbers.{groups, second_broken, second_at, number_at, operand_at, found}
+use Rattle.file.specs.Reading.{and_then, placed, operands_at, read_at, Standing}
 use Rattle.file.specs.Form.{operand_bytes, number_bytes, bytes_of}
 use Rattle.file.specs.Whole.{standing_at}
 use Rattle.file.specs.Laws.{Bytes, ReadingFrom, Stands}
@@ -64,10 +61,10 @@ bytes_at_most_five (event.At channel t) range = touch_at_most_five channel t ran
 bytes_at_most_five event.Reset range = omega arith
 bytes_at_most_five event.IrqLook range = omega arith
 
-abbrev ReadFrom : List ℕ → Bool → ℕ → Number → Type 0
-ReadFrom s wanted at (number.Value n next) =
-    (at + pick wanted 1 0 ≤ next) × (next ≤ length s) × Operand wanted n × (Bytes s → drop at s ≡ operand_bytes wanted n ++ drop next s)
-ReadFrom s wanted at (number.Broken r) = refusal_number r ≤ 2
+abbrev ReadFrom : List ℕ → Bool → ℕ → Result Number Refusal → Type 0
+ReadFrom s wanted at (Ok n) =
+    (at + pick wanted 1 0 ≤ n.next) × (n.next ≤ length s) × Operand wanted n.value × (Bytes s → drop at s ≡ operand_bytes wanted n.value ++ drop n.next s)
+ReadFrom s wanted at (Err r) = refusal_number r ≤ 2
 
 neither : (a b : Bool) → a || b ≡ false → (a ≡ false) × (b ≡ false)
 neither true b h = absurd (true≢false h)
@@ -82,12 +79,12 @@ first_byte : (s : List ℕ) (at : ℕ) → at < length s → drop at s ≡ get_o
 first_byte s at inside = rw (add-one, drop-cons s at 0)
 
 module _ (s : List ℕ) (at : ℕ) where
-  small_from : at < length s → get_or s at 0 < 128 → ReadFrom s true at (number.Value (get_or s at 0) (at + 1))
+  small_from : at < length s → get_or s at 0 < 128 → ReadFrom s true at (found (get_or s at 0) (at + 1))
   small_from inside small =
       (omega arith, omega arith, (omega arith, refl), λ _. rw (one_group (get_or s at 0) small) (first_byte s at inside))
 
   large_from : at + 1 < length s → 128 ≤ get_or s at 0 → (get_or s (at + 1) 0 ≡ 0 → ⊥) × (get_or s (at + 1) 0 < 128)
-      → ReadFrom s true at (number.Value (get_or s at 0 % 128 + 128 * get_or s (at + 1) 0) (at + 1 + 1))
+      → ReadFrom s true at (found (get_or s at 0 % 128 + 128 * get_or s (at + 1) 0) (at + 1 + 1))
   large_from inside marked second = (
     omega arith,
     omega arith,
@@ -128,11 +125,11 @@ list_past s at l rest stands = sym (drop-drop (length l) at s) ∙ ap (drop (len
 
 -- ---- a number that was written reads back, and so does an operand
 module _ (s : List ℕ) (at n : ℕ) (rest : List ℕ) where
-  small_back : n < 128 → drop at s ≡ n ∷ rest → number_at s at ≡ number.Value n (at + 1)
+  small_back : n < 128 → drop at s ≡ n ∷ rest → number_at s at ≡ found n (at + 1)
   unfolding number_at
   small_back small stands = rw (lt-leb (length s) at (byte_inside s at stands), byte_there s at stands, lt-ltb n 128 small)
 
-  large_back : 128 ≤ n → n < 16384 → drop at s ≡ (n % 128 + 128) ∷ (n / 128) ∷ rest → number_at s at ≡ number.Value n (at + 2)
+  large_back : 128 ≤ n → n < 16384 → drop at s ≡ (n % 128 + 128) ∷ (n / 128) ∷ rest → number_at s at ≡ found n (at + 2)
   unfolding number_at second_at
   large_back large fits stands =
       let second : drop (at + 1) s ≡ (n / 128) ∷ rest = byte_past s at stands in
@@ -142,15 +139,15 @@ module _ (s : List ℕ) (at n : ℕ) (rest : List ℕ) where
       (rw (lt-leb (length s) (at + 1) (byte_inside s (at + 1) second), byte_there s (at + 1) second)
       (rw (ne_eqb (n / 128) 0 (omega arith), lt-leb 128 (n / 128) (omega arith), value, place)))
 
-  number_back : n < 16384 → drop at s ≡ groups n ++ rest → number_at s at ≡ number.Value n (at + length (groups n))
+  number_back : n < 16384 → drop at s ≡ groups n ++ rest → number_at s at ≡ found n (at + length (groups n))
   unfolding groups
   number_back fits =
-      pick_by (λ (l : List ℕ). drop at s ≡ l ++ rest → number_at s at ≡ number.Value n (at + length l)) (ltb n 128)
+      pick_by (λ (l : List ℕ). drop at s ≡ l ++ rest → number_at s at ≡ found n (at + length l)) (ltb n 128)
       (λ h. small_back (ltb-true n 128 h))
       (λ h. large_back (ltb-false n 128 h) fits)
 
   operand_back : (wanted : Bool) → Operand wanted n → drop at s ≡ operand_bytes wanted n ++ rest
-      → operand_at s wanted at ≡ number.Value n (at + length (operand_bytes wanted n))
+      → operand_at s wanted at ≡ found n (at + length (operand_bytes wanted n))
   unfolding operand_at
   operand_back true small stands = number_back small.0 stands
   operand_back false small stands = rw (small.1, add-zero)
@@ -179,25 +176,25 @@ operand_looked_at : (wanted : Bool) (n : ℕ) → operand_bytes wanted (pick wan
 operand_looked_at true n = refl
 operand_looked_at false n = refl
 
-pub bytes_of_made : (n : Numbers) (e : Event) → made_of n ≡ made.Event e → bytes_of e ≡ number_bytes n
+pub bytes_of_made : (n : Numbers) (e : Event) → made_of n ≡ Ok e → bytes_of e ≡ number_bytes n
 unfolding bytes_of
 bytes_of_made n e come =
-    let own : MadeOf n (made.Event e) = rw come at (made_of_lem n.kind n.x n.y n.z) in
+    let own : MadeOf n (Ok e) = rw come at (made_of_lem n.kind n.x n.y n.z) in
     simp (own.1, operand_looked_at)
 
 module _ (s : List ℕ) (at : ℕ) where
-  read_on : (wanted : Bool) (p : ℕ) (m : Number) (f : ℕ → ℕ → Reading) → operand_at s wanted p ≡ m → ReadFrom s wanted p m
-      → ((n next : ℕ) → operand_at s wanted p ≡ number.Value n next → ReadFrom s wanted p (number.Value n next) → ReadingFrom s at (f n next))
+  read_on : (wanted : Bool) (p : ℕ) (m : Result Number Refusal) (f : ℕ → ℕ → Standing) → operand_at s wanted p ≡ m → ReadFrom s wanted p m
+      → ((n next : ℕ) → operand_at s wanted p ≡ found n next → ReadFrom s wanted p (found n next) → ReadingFrom s at (f n next))
       → ReadingFrom s at (and_then m f)
-  read_on wanted p (number.Value n next) f is from then = then n next is from
-  read_on wanted p (number.Broken r) f is from then = omega arith
+  read_on wanted p (Ok n) f is from then = then n.value n.next is from
+  read_on wanted p (Err r) f is from then = omega arith
 
   placed_from : (n : Numbers) (next : ℕ) (m : Made) → MadeOf n m → n.kind ≤ 8 → at < next → next ≤ length s → Stands s at m next
       → ReadingFrom s at (placed m next)
-  placed_from n next (made.Event e) made known past inside stands = (past, inside, made.0, stands)
-  placed_from n next (made.Refused r) made known past inside stands = (past, inside, made.0 known, made.1, stands)
+  placed_from n next (Ok e) made known past inside stands = (past, inside, made.0, stands)
+  placed_from n next (Err r) made known past inside stands = (past, inside, (made.0 known, made.1), stands)
 
-  operands_from : (kind p : ℕ) → kind ≤ 8 → number_at s at ≡ number.Value kind p → ReadFrom s true at (number.Value kind p)
+  operands_from : (kind p : ℕ) → kind ≤ 8 → number_at s at ≡ found kind p → ReadFrom s true at (found kind p)
       → ReadingFrom s at (operands_at s kind p)
   unfolding operands_at standing_at
   operands_from kind p known k_is k =
@@ -217,10 +214,10 @@ module _ (s : List ℕ) (at : ℕ) where
       pick_by (ReadingFrom s at) (ltb 8 kind) (λ _. omega arith) (λ known. operands_from kind p (ltb-false 8 kind known) is k))))
 
 -- an input above 65,536 bytes is refused at any place, and from its end on any other is at its end
-pub long_refused : (s : List ℕ) (at : ℕ) → 65536 < length s → read_at s at ≡ reading.Ended refusal.Long
+pub long_refused : (s : List ℕ) (at : ℕ) → 65536 < length s → read_at s at ≡ Err refusal.Long
 unfolding read_at
 long_refused s at long = rw (lt-ltb 65536 (length s) long)
 
-pub past_the_end : (s : List ℕ) (at : ℕ) → length s ≤ 65536 → length s ≤ at → read_at s at ≡ reading.End
+pub past_the_end : (s : List ℕ) (at : ℕ) → length s ≤ 65536 → length s ≤ at → read_at s at ≡ Ok None
 unfolding read_at
 past_the_end s at short past = rw (le-ltb 65536 (length s) short, le-leb (length s) at past)

@@ -2,7 +2,8 @@
 use Rattle.std.specs.Prelude.{ℕ, Bool, List, [], ◌++◌, ltb}
 use Rattle.bits.specs.Choice.{pick}
 use Rattle.event.specs.declared.events.Event.{Event}
-use Rattle.event.specs.Events.{operand_count, Numbers, numbers_of}
+use Rattle.event.specs.Kinds.{operand_count}
+use Rattle.event.specs.Events.{Numbers, numbers_of}
 use Rattle.file.specs.Numbers.{groups}
 
 -- an operand that the kind has, as it is written; nothing where it has none

@@ -1,15 +1,12 @@
 -- Definitions: what the laws in `proofs/Laws` say of what was read: it is bytes, it ends inside the input, and it stands there as
 -- it is written.
-use Rattle.std.specs.Prelude.{ℕ, ◌<◌, ◌≤◌, ◌≡◌, get_or}
+use Rattle.std.specs.Prelude.{ℕ, ◌<◌, ◌≤◌, ◌≡◌, get_or, None, Some, Ok, Err}
 use mathlib.Core.List.{List, ◌++◌}
 use Rattle.std.proofs.Math.ListN.{length, drop}
-use Rattle.event.specs.declared.events.Made.{Made}
-use Rattle.event.specs.declared.events.Made.TheVariants as made
 use Rattle.event.specs.Refusals.{refusal_number}
-use Rattle.event.specs.Events.{made_of, InRange}
+use Rattle.event.specs.Events.{made_of, InRange, Made}
 use Rattle.event.specs.Laws.{Small}
-use Rattle.file.specs.declared.reading.Reading.{Reading}
-use Rattle.file.specs.declared.reading.Reading.TheVariants as reading
+use Rattle.file.specs.Reading.{Standing}
 use Rattle.file.specs.Form.{number_bytes}
 use Rattle.file.specs.Whole.{standing_at}
 
@@ -22,8 +19,11 @@ Bytes s = (i : ℕ) → get_or s i 0 < 256
 abbrev pub Stands : List ℕ → ℕ → Made → ℕ → Type 0
 Stands s at m next = Small (standing_at s at) × (made_of (standing_at s at) ≡ m) × (Bytes s → drop at s ≡ number_bytes (standing_at s at) ++ drop next s)
 
-abbrev pub ReadingFrom : List ℕ → ℕ → Reading → Type 0
-ReadingFrom s at (reading.Event e next) = (at < next) × (next ≤ length s) × InRange e × Stands s at (made.Event e) next
-ReadingFrom s at (reading.Refused r next) = (at < next) × (next ≤ length s) × (4 ≤ refusal_number r) × (refusal_number r ≤ 8) × Stands s at (made.Refused r) next
-ReadingFrom s at (reading.Ended r) = 3 < refusal_number r → refusal_number r ≡ 9
-ReadingFrom s at reading.End = length s ≤ at
+abbrev pub OutcomeIn : Made → Type 0
+OutcomeIn (Ok e) = InRange e
+OutcomeIn (Err r) = (4 ≤ refusal_number r) × (refusal_number r ≤ 8)
+
+abbrev pub ReadingFrom : List ℕ → ℕ → Standing → Type 0
+ReadingFrom s at (Ok (Some read)) = (at < read.next) × (read.next ≤ length s) × OutcomeIn read.event × Stands s at read.event read.next
+ReadingFrom s at (Err r) = 3 < refusal_number r → refusal_number r ≡ 9
+ReadingFrom s at (Ok None) = length s ≤ at

@@ -4,49 +4,49 @@ ghost use Rattle.file.specs.Numbers.{number_at, operand_at};
 
 use event::Refusal;
 
+// A number that was read, and the place after it.
 #[derive(Clone, Copy)]
-pub enum Number {
-    Value { value: u16, next: usize },
-    Broken(Refusal),
+pub struct Number {
+    pub value: u16,
+    pub next: usize,
 }
 
-// The number at a place of the input, with the place after it.
-pub fn number_at(input: &[u8], at: usize) -> Number
+// The number at a place of the input.
+#[tactic(auto, unfolding(crate::specs::Numbers::number_at, crate::specs::Numbers::second_at))]
+pub fn number_at(input: &[u8], at: usize) -> Result<Number, Refusal>
     ensures { result ≡ number_at input.now at }
 {
     if input.len() <= at {
-        return Number::Broken(Refusal::Short);
+        return Err(Refusal::Short);
     }
     let low = input[at];
     if low < 128 {
-        return Number::Value {
-            value: low as u16,
+        return Ok(Number {
+            value: u16::from(low),
             next: at + 1,
-        };
+        });
     }
     let second = at + 1;
     if input.len() <= second {
-        return Number::Broken(Refusal::Short);
+        return Err(Refusal::Short);
     }
     let high = input[second];
-    if high == 0 {
-        return Number::Broken(Refusal::Number);
+    if high == 0 || 128 <= high {
+        return Err(Refusal::Number);
     }
-    if 128 <= high {
-        return Number::Broken(Refusal::Number);
-    }
-    Number::Value {
-        value: (low % 128) as u16 + 128 * (high as u16),
+    Ok(Number {
+        value: u16::from(low % 128) + 128 * u16::from(high),
         next: second + 1,
-    }
+    })
 }
 
 // The same where an event's kind has that operand, else 0 and the same place.
-pub fn operand_at(input: &[u8], wanted: bool, at: usize) -> Number
+#[tactic(auto, unfolding(crate::specs::Numbers::operand_at))]
+pub fn operand_at(input: &[u8], wanted: bool, at: usize) -> Result<Number, Refusal>
     ensures { result ≡ operand_at input.now wanted at }
 {
     if wanted {
         return number_at(input, at);
     }
-    Number::Value { value: 0, next: at }
+    Ok(Number { value: 0, next: at })
 }

@@ -1,77 +1,53 @@
 // The event at a place of an event file.
-ghost use Rattle.std.specs.Prelude.{◌≡◌, ◌<◌};
-ghost use Rattle.file.specs.Reading.{operands_at, read_at, placed};
+ghost use Rattle.std.specs.Prelude.{◌≡◌};
+ghost use Rattle.event.specs.Kinds.{kind_number};
+ghost use Rattle.file.specs.Reading.{operands_at, read_at};
 
-use crate::number::{Number, number_at, operand_at};
-use event::{Event, Made, Refusal, event_of};
+use crate::number::{number_at, operand_at};
+use event::{Event, Kind, Refusal, event_of};
 
 const LIMIT: usize = 65536;
 
-// How many operands each kind has.
-const OPERANDS: [u8; 9] = [3, 2, 3, 1, 2, 1, 0, 0, 1];
-
-// What stands at a place: an event or a refused one, each with the place after it; a refusal that ends the run; or
-// nothing more.
+// An event that was read, or the refusal of one that is passed over, and the place after it.
 #[derive(Clone, Copy)]
-pub enum Reading {
-    Event { event: Event, next: usize },
-    Refused { refusal: Refusal, next: usize },
-    Ended(Refusal),
-    End,
-}
-
-fn at_place(made: Made, next: usize) -> Reading
-    ensures { result ≡ placed made next }
-{
-    match made {
-        Made::Event(event) => Reading::Event {
-            event: event,
-            next: next,
-        },
-        Made::Refused(refusal) => Reading::Refused {
-            refusal: refusal,
-            next: next,
-        },
-    }
+pub struct Reading {
+    pub event: Result<Event, Refusal>,
+    pub next: usize,
 }
 
 // The event of a kind that was read, from its operands.
-fn operands_at(input: &[u8], kind: u16, at: usize) -> Reading
-    requires { kind < 9 }
-    ensures { result ≡ operands_at input.now kind at }
+#[tactic(auto, unfolding(crate::specs::Reading::operands_at))]
+fn operands_at(input: &[u8], kind: Kind, at: usize) -> Result<Option<Reading>, Refusal>
+    ensures { result ≡ operands_at input.now (kind_number kind) at }
 {
-    let count = OPERANDS[kind as usize];
-    match operand_at(input, 0 < count, at) {
-        Number::Broken(refusal) => Reading::Ended(refusal),
-        Number::Value { value: x, next: p } => match operand_at(input, 1 < count, p) {
-            Number::Broken(refusal) => Reading::Ended(refusal),
-            Number::Value { value: y, next: q } => match operand_at(input, 2 < count, q) {
-                Number::Broken(refusal) => Reading::Ended(refusal),
-                Number::Value { value: z, next } => at_place(
-                    event_of(kind as u64, x as u64, y as u64, z as u64),
-                    next,
-                ),
-            },
-        },
-    }
+    let count = kind.operands();
+    let x = operand_at(input, 0 < count, at)?;
+    let y = operand_at(input, 1 < count, x.next)?;
+    let z = operand_at(input, 2 < count, y.next)?;
+    let event = event_of(
+        u64::from(kind.number()),
+        u64::from(x.value),
+        u64::from(y.value),
+        u64::from(z.value),
+    );
+    Ok(Some(Reading {
+        event,
+        next: z.next,
+    }))
 }
 
-pub fn read_at(input: &[u8], at: usize) -> Reading
+// What stands at a place, nothing at the end; a refusal that ends the run is an error.
+#[tactic(auto, unfolding(crate::specs::Reading::read_at))]
+pub fn read_at(input: &[u8], at: usize) -> Result<Option<Reading>, Refusal>
     ensures { result ≡ read_at input.now at }
 {
     if LIMIT < input.len() {
-        return Reading::Ended(Refusal::Long);
+        return Err(Refusal::Long);
     }
     if input.len() <= at {
-        return Reading::End;
+        return Ok(None);
     }
-    match number_at(input, at) {
-        Number::Broken(refusal) => Reading::Ended(refusal),
-        Number::Value { value: kind, next } => {
-            if 8 < kind {
-                return Reading::Ended(Refusal::Kind);
-            }
-            operands_at(input, kind, next)
-        }
-    }
+    let number = number_at(input, at)?;
+    let kind = Kind::try_from(u64::from(number.value))?;
+    operands_at(input, kind, number.next)
 }

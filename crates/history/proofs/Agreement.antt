@@ -4,7 +4,7 @@ use Rattle.std.proofs.Common.{arith, ap, ◌∙◌}
 use Rattle.std.specs.Prelude.{◌≡◌, refl, List, [], ◌∷◌}
 use Rattle.queue.specs.Queue.{empty_queue, moved_by}
 use Rattle.queue.specs.Laws.{items_cleared}
-use Rattle.event.specs.declared.events.Made.{Made}
+use Rattle.event.specs.Events.{Made}
 use Rattle.registers.specs.declared.settings.Settings.{Settings}
 use Rattle.levels.specs.Queues.{room_of}
 use Rattle.levels.specs.Laws.{room_in}

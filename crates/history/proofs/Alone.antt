@@ -1,13 +1,12 @@
 -- Laws: nothing done on the other channel alters a channel, save a device reset: a history and what is left of it for the channel
 -- come to the same there.
-use Rattle.std.specs.Prelude.{ℕ, ◌≡◌, Bool, List, [], ◌∷◌, ◌++◌, map}
+use Rattle.std.specs.Prelude.{ℕ, ◌≡◌, Bool, List, [], ◌∷◌, ◌++◌, map, Ok, Err}
 use Rattle.std.proofs.Math.Path.{refl, sym, ap}
 use Rattle.std.proofs.Common.{◌∙◌}
 use Rattle.std.proofs.Math.Bool.{true, false}
 use Rattle.bits.specs.Choice.{pick}
 use Rattle.event.specs.declared.events.Event.TheVariants as event
-use Rattle.event.specs.declared.events.Made.{Made}
-use Rattle.event.specs.declared.events.Made.TheVariants as made
+use Rattle.event.specs.Events.{Made}
 use Rattle.event.specs.declared.events.Touch.{Touch}
 use Rattle.channel.specs.declared.channel.Channel.{Channel}
 use Rattle.acts.specs.Touches.{resets_by}
@@ -52,14 +51,14 @@ module _ (w : Side) (l : Ledger) where
   abbrev Left : Made → (List Made → Type 0) → Type 0
   Left m P = (PassesBy (effect_on w l m) → of_own w m ≡ false → P []) → ((left : Made) → StandsFor w l m left → P (left ∷ [])) → P (left_of w l.other m)
 
-  left_at : (channel : ℕ) (t : Touch) (P : List Made → Type 0) → Left (made.Event (event.At channel t)) P
+  left_at : (channel : ℕ) (t : Touch) (P : List Made → Type 0) → Left (Ok (event.At channel t)) P
   unfolding answered_of answer_number step_of
   left_at channel t P none one = go (is_side w (side_numbered channel)) refl (resets_by l.other t) refl
     where
       go : (own : Bool) → is_side w (side_numbered channel) ≡ own → (resets : Bool) → resets_by l.other t ≡ resets
-          → P (pick own (made.Event (event.At channel t) ∷ []) (pick resets (made.Event event.Reset ∷ []) []))
+          → P (pick own (Ok (event.At channel t) ∷ []) (pick resets (Ok event.Reset ∷ []) []))
       go true own resets r =
-          one (made.Event (event.At channel t))
+          one (Ok (event.At channel t))
           (record {
             effect = λ n same. rw (own, same);
             own = refl;
@@ -67,16 +66,16 @@ module _ (w : Side) (l : Ledger) where
                 (named_reply d w t ∙ ap (λ (ch : Channel). reply_by ch t) same ∙ sym (named_reply k w t));
           })
       go false own true r =
-          one (made.Event event.Reset) (record { effect = λ n same. rw (own, r); own = own; number = λ d k same h. cc })
+          one (Ok event.Reset) (record { effect = λ n same. rw (own, r); own = own; number = λ d k same h. cc })
       go false own false r = none (rw (own, r) tt) own
 
   left_by : (m : Made) (P : List Made → Type 0) → Left m P
-  left_by (made.Event (event.At channel t)) P none one = left_at channel t P none one
-  left_by (made.Event event.Reset) P none one =
-      one (made.Event event.Reset) (record { effect = λ n same. refl; own = refl; number = λ d k same h. cc })
-  left_by (made.Event event.IrqLook) P none one =
-      one (made.Event event.IrqLook) (record { effect = λ n same. refl; own = refl; number = λ d k same h. cc })
-  left_by (made.Refused r) P none one = none tt refl
+  left_by (Ok (event.At channel t)) P none one = left_at channel t P none one
+  left_by (Ok event.Reset) P none one =
+      one (Ok event.Reset) (record { effect = λ n same. refl; own = refl; number = λ d k same h. cc })
+  left_by (Ok event.IrqLook) P none one =
+      one (Ok event.IrqLook) (record { effect = λ n same. refl; own = refl; number = λ d k same h. cc })
+  left_by (Err r) P none one = none tt refl
 
 -- ---- two devices whose channel w is the same, each with its ledger
 record Beside (w : Side) (d k : Device) (l n : Ledger) : Type 0 where

@@ -23,6 +23,10 @@ use Rattle.event.proofs.event_of.Reads as event_of
 use Rattle.event.proofs.events.Event.judged.Reads as event_judged
 use Rattle.event.proofs.refusal.Refusal.number.Reads as event_refusal_number
 use Rattle.event.proofs.refused_answer.Reads as event_refused_answer
+use Rattle.event.proofs.kind.KindTryFromU64.try_from.Reads as event_kind_named
+use Rattle.event.proofs.kind.Kind.number.Reads as event_kind_number
+use Rattle.event.proofs.kind.Kind.operands.Reads as event_kind_operands
+use Rattle.event.specs.Laws.{named_once}
 use Rattle.file.proofs.read_at.Reads as file_read_at
 use Rattle.writer.proofs.write.Reads as writer_write
 use Rattle.writer.proofs.put_event.Reads as writer_put_event
@@ -99,7 +103,8 @@ use Rattle.channel.proofs.state.State.with_latch.Reads as channel_state_with_lat
 use Rattle.channel.proofs.state.State.with_flow.Reads as channel_state_with_flow
 use Rattle.acts.proofs.act.Reads as acts_act
 use Rattle.acts.proofs.step.Reads as acts_step
-use Rattle.device.proofs.device.Answer.number.Reads as device_answer_number
+use Rattle.device.proofs.answer_number.Reads as device_answer_number
+use Rattle.device.proofs.side.SideFromU8.from.Reads as device_side_numbered
 use Rattle.device.proofs.irq.Reads as device_irq
 use Rattle.device.proofs.device.Device.step.Reads as device_step
 use Rattle.device.proofs.device.Device.step_numbers.Reads as device_step_numbers
@@ -174,6 +179,15 @@ event_refusal_number_determined = by_equation (λ a r s h. h)
 
 pub event_refused_answer_determined : Determined (event_refused_answer.Post tt)
 event_refused_answer_determined = by_equation (λ a r s h. h)
+
+pub event_kind_named_determined : Determined (event_kind_named.Post tt)
+event_kind_named_determined a r r' s s' p q = named_once a.0 r r' p q
+
+pub event_kind_number_determined : Determined (event_kind_number.Post tt)
+event_kind_number_determined = by_equation (λ a r s h. h)
+
+pub event_kind_operands_determined : Determined (event_kind_operands.Post tt)
+event_kind_operands_determined = by_equation (λ a r s h. h)
 
 -- at any lifetime of the input
 pub file_read_at_determined : (κs : Lfts 1) → Determined (file_read_at.Post κs)
@@ -400,6 +414,9 @@ acts_step_determined = by_equation (λ a r s h. h)
 
 pub device_answer_number_determined : Determined (device_answer_number.Post tt)
 device_answer_number_determined = by_equation (λ a r s h. h)
+
+pub device_side_numbered_determined : Determined (device_side_numbered.Post tt)
+device_side_numbered_determined = by_equation (λ a r s h. h)
 
 pub device_irq_determined : Determined (device_irq.Post tt)
 device_irq_determined = by_equation (λ a r s h. h)

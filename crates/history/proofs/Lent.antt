@@ -3,9 +3,8 @@
 use Rattle.std.specs.Prelude.{ℕ, ◌<◌, ◌≡◌, refl, List, [], ◌∷◌, map}
 use Rattle.std.proofs.Common.{arith, ap, ◌∙◌}
 use Rattle.event.specs.declared.events.Event.TheVariants as event
-use Rattle.event.specs.declared.events.Made.{Made}
 use Rattle.event.specs.declared.events.Touch.{Touch}
-use Rattle.event.specs.Events.{numbers_at, made_of, judged_of, TouchIn}
+use Rattle.event.specs.Events.{numbers_at, made_of, judged_of, TouchIn, Made}
 use Rattle.event.specs.Laws.{in_range_judged}
 use Rattle.device.specs.declared.side.Side.{Side}
 use Rattle.device.specs.declared.side.Side.TheVariants as side

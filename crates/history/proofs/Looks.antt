@@ -1,10 +1,9 @@
 -- Laws: looks disturb nothing. The device is settled after every history, so an RTS look and an IRQ look leave it as it is, and a
 -- history without its looks leads to the same device.
-use Rattle.std.specs.Prelude.{ℕ, ◌≡◌, refl, Bool, true, false, List, [], ◌∷◌}
+use Rattle.std.specs.Prelude.{ℕ, ◌≡◌, refl, Bool, true, false, List, [], ◌∷◌, Ok, Err}
 use Rattle.bits.specs.Choice.{pick, apart}
 use Rattle.event.specs.declared.events.Event.TheVariants as event
-use Rattle.event.specs.declared.events.Made.{Made}
-use Rattle.event.specs.declared.events.Made.TheVariants as made
+use Rattle.event.specs.Events.{Made}
 use Rattle.event.specs.declared.events.Touch.TheVariants as touch
 use Rattle.device.specs.declared.device.Device.{Device}
 use Rattle.device.specs.Reset.{new_device}
@@ -30,16 +29,16 @@ irq_look_disturbs_nothing history = irq_look_left (ran history)
 
 look_leaves : (m : Made) (d : Device) → Settled d → looks m ≡ true → (answered_of d m).device ≡ d
 unfolding answered_of
-look_leaves (made.Event (event.At channel (touch.Write address byte))) d h look = absurd (apart look)
-look_leaves (made.Event (event.At channel (touch.Read address))) d h look = absurd (apart look)
-look_leaves (made.Event (event.At channel (touch.Arrival byte mark))) d h look = absurd (apart look)
-look_leaves (made.Event (event.At channel touch.Slot)) d h look = absurd (apart look)
-look_leaves (made.Event (event.At channel (touch.Pins value))) d h look = absurd (apart look)
-look_leaves (made.Event (event.At channel touch.Quiet)) d h look = absurd (apart look)
-look_leaves (made.Event (event.At channel touch.RtsLook)) d h look = rts_look_left d channel h
-look_leaves (made.Event event.Reset) d h look = absurd (apart look)
-look_leaves (made.Event event.IrqLook) d h look = irq_look_left d
-look_leaves (made.Refused r) d h look = absurd (apart look)
+look_leaves (Ok (event.At channel (touch.Write address byte))) d h look = absurd (apart look)
+look_leaves (Ok (event.At channel (touch.Read address))) d h look = absurd (apart look)
+look_leaves (Ok (event.At channel (touch.Arrival byte mark))) d h look = absurd (apart look)
+look_leaves (Ok (event.At channel touch.Slot)) d h look = absurd (apart look)
+look_leaves (Ok (event.At channel (touch.Pins value))) d h look = absurd (apart look)
+look_leaves (Ok (event.At channel touch.Quiet)) d h look = absurd (apart look)
+look_leaves (Ok (event.At channel touch.RtsLook)) d h look = rts_look_left d channel h
+look_leaves (Ok event.Reset) d h look = absurd (apart look)
+look_leaves (Ok event.IrqLook) d h look = irq_look_left d
+look_leaves (Err r) d h look = absurd (apart look)
 
 looks_from : (history : List Made) (d : Device) → Settled d → ran_from d history ≡ ran_from d (without_looks history)
 looks_from [] d h = refl

@@ -2,8 +2,7 @@
 -- holds of these too.
 use Rattle.std.specs.Prelude.{◌≡◌, refl, List, [], ◌∷◌, map}
 use Rattle.event.specs.declared.events.Event.{Event}
-use Rattle.event.specs.declared.events.Made.{Made}
-use Rattle.event.specs.Events.{Numbers, made_of, judged_of}
+use Rattle.event.specs.Events.{Numbers, made_of, judged_of, Made}
 use Rattle.device.specs.declared.side.Side.{Side}
 use Rattle.device.specs.Laws.{MadeIn, made_in, judged_in}
 use Rattle.history.specs.Demand3.{AllIn, log_of, OfNewDevice, remainder, Demand3, Alone}

@@ -5,7 +5,7 @@ use Rattle.std.proofs.Common.{sym, ap, ◌∙◌}
 use Rattle.bits.specs.Choice.{pick}
 use Rattle.bits.specs.Bits.{differs}
 use Rattle.event.specs.declared.events.Event.TheVariants as event
-use Rattle.event.specs.declared.events.Made.{Made}
+use Rattle.event.specs.Events.{Made}
 use Rattle.event.specs.declared.events.Touch.{Touch}
 use Rattle.event.specs.declared.events.Touch.TheVariants as touch
 use Rattle.registers.specs.Pairs.{chooses_pair}

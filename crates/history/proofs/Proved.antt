@@ -10,7 +10,7 @@ use Rattle.queue.specs.Queue.{none, oldest_of}
 use Rattle.queue.specs.List.{items, some_mark}
 use Rattle.queue.specs.Laws.{oldest_head}
 use Rattle.event.specs.declared.events.Event.TheVariants as event
-use Rattle.event.specs.declared.events.Made.{Made}
+use Rattle.event.specs.Events.{Made}
 use Rattle.event.specs.declared.events.Touch.TheVariants as touch
 use Rattle.registers.specs.declared.register.Register.{Register}
 use Rattle.registers.specs.declared.register.Register.TheVariants as register

@@ -3,7 +3,7 @@
 use Rattle.std.specs.Prelude.{ℕ, ◌≡◌, refl, false, List, [], ◌∷◌}
 use native.Mathlib.Omega.{arith}
 use Rattle.bits.specs.Bits.{part_at, bit_at}
-use Rattle.event.specs.declared.events.Made.{Made}
+use Rattle.event.specs.Events.{Made}
 use Rattle.registers.specs.declared.register.Register.TheVariants as register
 use Rattle.registers.specs.declared.settings.Settings.{Settings}
 use Rattle.registers.specs.Windows.{register_at}

@@ -1,7 +1,7 @@
 -- Laws: the rules that the judge shares with the device, written out to be held against document 01: what clears the receive queue,
 -- what is a read of it, what becomes of an arrival, mode by mode, and what is kept.
 use Prim.Native.Nat.{ℕ}
-use Rattle.std.specs.Prelude.{◌≡◌, Bool, not, ◌&&◌, ◌||◌, [], ◌∷◌, ◌++◌, ltb}
+use Rattle.std.specs.Prelude.{◌≡◌, Bool, not, ◌&&◌, ◌||◌, [], ◌∷◌, ◌++◌, ltb, Ok, Err}
 use Rattle.std.proofs.Math.Path.{refl, sym}
 use Rattle.std.proofs.Common.{ap, eqb-true}
 use Rattle.std.proofs.Math.Bool.{true, false}
@@ -10,8 +10,7 @@ use Rattle.bits.specs.Choice.{pick, pick_by}
 use Rattle.bits.specs.Bits.{differs, bit_at, part_at, replaced_at, cut_to}
 use Rattle.queue.specs.Change.{Change, Add, Take, Clear, Stay}
 use Rattle.event.specs.declared.events.Event.TheVariants as event
-use Rattle.event.specs.declared.events.Made.{Made}
-use Rattle.event.specs.declared.events.Made.TheVariants as made
+use Rattle.event.specs.Events.{Made}
 use Rattle.event.specs.declared.events.Touch.{Touch}
 use Rattle.event.specs.declared.events.Touch.TheVariants as touch
 use Rattle.registers.specs.declared.register.Register.{Register}
@@ -231,10 +230,10 @@ touch_change_lem own l touch.RtsLook = nothing_here own l touch.RtsLook (λ s. r
 -- the receive queue is cleared by a kind 6, by a write to an open IOControl with bit 3 through either channel, and by an FCR write
 -- to this channel with bit 1 set or that changes bit 0; a read of RHR takes from it; what passes is offered to it
 pub change_exactly : (w : Side) (l : Ledger) (m : Made) → change_by l.own (effect_on w l m) ≡ change_of w l m
-change_exactly w l (made.Event (event.At channel t)) = touch_change_lem (is_side w (side_numbered channel)) l t
-change_exactly w l (made.Event event.Reset) = refl
-change_exactly w l (made.Event event.IrqLook) = refl
-change_exactly w l (made.Refused r) = refl
+change_exactly w l (Ok (event.At channel t)) = touch_change_lem (is_side w (side_numbered channel)) l t
+change_exactly w l (Ok event.Reset) = refl
+change_exactly w l (Ok event.IrqLook) = refl
+change_exactly w l (Err r) = refl
 
 -- what is kept is the byte so cut, with its mark, exactly if the fate is 0; no arrival is a read
 pub kept_exactly : (l : Ledger) (byte mark : ℕ)

@@ -1,12 +1,11 @@
 -- For proofs alone: what an event makes of each channel of a device whose stored registers the judge has.
-use Rattle.std.specs.Prelude.{◌≡◌, Bool}
+use Rattle.std.specs.Prelude.{◌≡◌, Bool, Ok, Err}
 use Rattle.std.proofs.Math.Path.{refl}
 use Rattle.std.proofs.Math.Bool.{true, false}
 use Rattle.bits.specs.Choice.{pick}
 use Rattle.event.specs.declared.events.Event.{Event}
 use Rattle.event.specs.declared.events.Event.TheVariants as event
-use Rattle.event.specs.declared.events.Made.{Made}
-use Rattle.event.specs.declared.events.Made.TheVariants as made
+use Rattle.event.specs.Events.{Made}
 use Rattle.event.specs.declared.events.Touch.{Touch}
 use Rattle.acts.specs.Touches.{resets_by}
 use Rattle.acts.specs.Step.{step_at, touched_by}
@@ -80,8 +79,8 @@ module _ (w : Side) (d : Device) (l : Ledger) (same : Same w d l) where
 
   pub seen : (m : Made) → Seen w d (answered_of d m).device (effect_on w l m)
   unfolding answered_of
-  seen (made.Event e) = seen_event e
-  seen (made.Refused r) = record { own = refl; other = refl }
+  seen (Ok e) = seen_event e
+  seen (Err r) = record { own = refl; other = refl }
 
   -- an event that touches the channel is answered by it
   named_reply : (own : Bool) (at : Side) (t u : Touch) → at ≡ pick own w (other_side w) → named_effect own l t ≡ Own u
@@ -107,5 +106,5 @@ module _ (w : Side) (d : Device) (l : Ledger) (same : Same w d l) where
 
   pub own_reply : (m : Made) (t : Touch) → effect_on w l m ≡ Own t → number_for d m ≡ (step_at (channel_at d w) t).reply
   unfolding answered_of answer_number
-  own_reply (made.Event e) t f = event_reply e t f
-  own_reply (made.Refused r) t f = cc
+  own_reply (Ok e) t f = event_reply e t f
+  own_reply (Err r) t f = cc

@@ -1,5 +1,5 @@
 -- Definitions: demand 3, as it is claimed of a device for either channel after every history. Its proofs stand in `proofs/`.
-use Rattle.std.specs.Prelude.{ℕ, ◌-◌, ◌<◌, ◌≤◌, ◌≡◌, Bool, false, List, [], ◌∷◌, ◌++◌, map, length, get_or, take}
+use Rattle.std.specs.Prelude.{ℕ, ◌-◌, ◌<◌, ◌≤◌, ◌≡◌, Bool, false, List, [], ◌∷◌, ◌++◌, map, length, get_or, take, Ok, Err}
 use Rattle.bits.specs.Choice.{pick}
 use Rattle.bits.specs.Bits.{bit_at, part_at}
 use Rattle.queue.specs.Change.{Change, Add, Take, Clear, Stay}
@@ -7,8 +7,7 @@ use Rattle.queue.specs.Queue.{none}
 use Rattle.queue.specs.List.{some_mark}
 use Rattle.event.specs.declared.events.Event.{Event}
 use Rattle.event.specs.declared.events.Event.TheVariants as event
-use Rattle.event.specs.declared.events.Made.{Made}
-use Rattle.event.specs.declared.events.Made.TheVariants as made
+use Rattle.event.specs.Events.{Made}
 use Rattle.event.specs.declared.events.Touch.{Touch}
 use Rattle.event.specs.declared.events.Touch.TheVariants as touch
 use Rattle.registers.specs.declared.register.Register.{Register}
@@ -22,9 +21,8 @@ use Rattle.acts.specs.Touches.{resets_by}
 use Rattle.device.specs.declared.side.Side.{Side}
 use Rattle.device.specs.declared.side.Side.TheVariants as side
 use Rattle.device.specs.declared.device.Device.{Device}
-use Rattle.device.specs.declared.device.Answer.{Answer}
 use Rattle.device.specs.Reset.{new_device}
-use Rattle.device.specs.Device.{channel_at, side_numbered, step_of, answered_of, answer_number}
+use Rattle.device.specs.Device.{channel_at, side_numbered, step_of, answered_of, answer_number, Answer}
 use Rattle.device.specs.Laws.{MadeIn}
 use Rattle.history.specs.Judge.{Tally, queued, unread, keeps, finds, Ledger, is_side, effect_on, change_by, judged_by, fresh_ledger, judgement}
 
@@ -134,14 +132,14 @@ pub record Demand3 (w : Side) (log : Log) : Type 0 where
 -- registers there, and then the kind 6 that it amounts to; nothing of a refused one
 abbrev pub event_left : Side → Settings → Event → List Made
 event_left w other (event.At channel t) =
-    pick (is_side w (side_numbered channel)) (made.Event (event.At channel t) ∷ [])
-    (pick (resets_by other t) (made.Event event.Reset ∷ []) [])
-event_left w other event.Reset = made.Event event.Reset ∷ []
-event_left w other event.IrqLook = made.Event event.IrqLook ∷ []
+    pick (is_side w (side_numbered channel)) (Ok (event.At channel t) ∷ [])
+    (pick (resets_by other t) (Ok event.Reset ∷ []) [])
+event_left w other event.Reset = Ok event.Reset ∷ []
+event_left w other event.IrqLook = Ok event.IrqLook ∷ []
 
 abbrev pub left_of : Side → Settings → Made → List Made
-left_of w other (made.Event e) = event_left w other e
-left_of w other (made.Refused r) = []
+left_of w other (Ok e) = event_left w other e
+left_of w other (Err r) = []
 
 abbrev pub remainder_from : Side → Ledger → List Made → List Made
 remainder_from w l [] = []
@@ -157,8 +155,8 @@ event_of_own w event.Reset = false
 event_of_own w event.IrqLook = false
 
 abbrev pub of_own : Side → Made → Bool
-of_own w (made.Event e) = event_of_own w e
-of_own w (made.Refused r) = false
+of_own w (Ok e) = event_of_own w e
+of_own w (Err r) = false
 
 -- the answers to the events of the channel w, in order
 abbrev pub own_of : Side → List Made → List ℕ → List ℕ

@@ -2,8 +2,7 @@
 use Prim.Native.Nat.{ℕ}
 use Rattle.std.specs.Prelude.{List, map, length, take}
 use Rattle.file.specs.Whole.{history_of}
-use Rattle.device.specs.declared.device.Answer.{Answer}
-use Rattle.device.specs.Device.{answer_number}
+use Rattle.device.specs.Device.{answer_number, Answer}
 use Rattle.run.specs.declared.cursor.Cursor.{Cursor}
 use Rattle.run.specs.Run.{Indexed, run_of}
 use Rattle.history.specs.Demand3.{Log}

@@ -2,14 +2,13 @@
 -- was last cleared, and how many reads of the receive register found a character. There is no queue, no device and no reply here:
 -- "What the fate rules call queued is there judged from the history, as kept less read since the clear, and a read finds
 -- a character exactly if that isn't 0."
-use Rattle.std.specs.Prelude.{ℕ, ◌+◌, ◌-◌, Bool, true, false, not, List, [], ◌∷◌, ◌++◌, length, drop, eqb, ltb}
+use Rattle.std.specs.Prelude.{ℕ, ◌+◌, ◌-◌, Bool, true, false, not, List, [], ◌∷◌, ◌++◌, length, drop, eqb, ltb, Ok, Err}
 use Rattle.bits.specs.Choice.{pick}
 use Rattle.queue.specs.declared.Character.{Character}
 use Rattle.queue.specs.Change.{Change, Add, Take, Clear, Stay}
 use Rattle.event.specs.declared.events.Event.{Event}
 use Rattle.event.specs.declared.events.Event.TheVariants as event
-use Rattle.event.specs.declared.events.Made.{Made}
-use Rattle.event.specs.declared.events.Made.TheVariants as made
+use Rattle.event.specs.Events.{Made}
 use Rattle.event.specs.declared.events.Touch.{Touch}
 use Rattle.registers.specs.declared.settings.Settings.{Settings}
 use Rattle.levels.specs.Queues.{room_of}
@@ -86,8 +85,8 @@ event_effect w l event.IrqLook = Nothing
 
 -- a refused event does nothing
 abbrev pub effect_on : Side → Ledger → Made → Effect
-effect_on w l (made.Event e) = event_effect w l e
-effect_on w l (made.Refused r) = Nothing
+effect_on w l (Ok e) = event_effect w l e
+effect_on w l (Err r) = Nothing
 
 -- what it does to what the channel has kept and read
 abbrev pub change_by : Settings → Effect → Change

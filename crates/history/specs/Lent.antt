@@ -1,8 +1,7 @@
 -- Definitions: a chain of lent steps from a new device on, as box code makes them through C. `proofs/Lent` shows that it is a log
 -- of a new device.
 use Rattle.std.specs.Prelude.{ℕ, List, [], ◌∷◌, map}
-use Rattle.event.specs.declared.events.Made.{Made}
-use Rattle.event.specs.Events.{Numbers, made_of}
+use Rattle.event.specs.Events.{Numbers, made_of, Made}
 use Rattle.device.specs.declared.device.Device.{Device}
 use Rattle.device.specs.Reset.{new_device}
 use Rattle.lent.specs.Lent.{Advanced}

@@ -1,19 +1,18 @@
 -- Definitions: the looks, and a history without them. `proofs/Looks` shows that they disturb nothing.
-use Rattle.std.specs.Prelude.{ℕ, Bool, true, false, List, [], ◌∷◌}
+use Rattle.std.specs.Prelude.{ℕ, Bool, true, false, List, [], ◌∷◌, Ok, Err}
 use Rattle.bits.specs.Choice.{pick}
 use Rattle.event.specs.declared.events.Event.{Event}
 use Rattle.event.specs.declared.events.Event.TheVariants as event
-use Rattle.event.specs.declared.events.Made.{Made}
-use Rattle.event.specs.declared.events.Made.TheVariants as made
+use Rattle.event.specs.Events.{Made}
 use Rattle.event.specs.declared.events.Touch.{Touch}
 use Rattle.event.specs.declared.events.Touch.TheVariants as touch
 
 -- ---- an RTS look, an IRQ look
 abbrev pub rts_look : ℕ → Made
-rts_look channel = made.Event (event.At channel touch.RtsLook)
+rts_look channel = Ok (event.At channel touch.RtsLook)
 
 abbrev pub irq_look : Made
-irq_look = made.Event event.IrqLook
+irq_look = Ok event.IrqLook
 
 -- ---- a history without its looks
 abbrev touch_looks : Touch → Bool
@@ -31,8 +30,8 @@ event_looks event.Reset = false
 event_looks event.IrqLook = true
 
 abbrev pub looks : Made → Bool
-looks (made.Event e) = event_looks e
-looks (made.Refused r) = false
+looks (Ok e) = event_looks e
+looks (Err r) = false
 
 abbrev pub without_looks : List Made → List Made
 without_looks [] = []

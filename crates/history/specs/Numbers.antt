@@ -2,8 +2,7 @@
 -- they are logs of a new device.
 use Rattle.std.specs.Prelude.{List, map}
 use Rattle.event.specs.declared.events.Event.{Event}
-use Rattle.event.specs.declared.events.Made.{Made}
-use Rattle.event.specs.Events.{Numbers, made_of, judged_of}
+use Rattle.event.specs.Events.{Numbers, made_of, judged_of, Made}
 
 -- what numbers, kind and three operands each, come to as a history
 abbrev pub from_numbers : List Numbers → List Made

@@ -3,7 +3,7 @@
 use Rattle.std.specs.Prelude.{◌≡◌, Bool, not, List, [], ◌∷◌, ◌++◌}
 use Rattle.bits.specs.Choice.{pick}
 use Rattle.bits.specs.Bits.{differs}
-use Rattle.event.specs.declared.events.Made.{Made}
+use Rattle.event.specs.Events.{Made}
 use Rattle.registers.specs.Pairs.{chooses_pair}
 use Rattle.channel.specs.declared.channel.Channel.{Channel}
 use Rattle.acts.specs.Rest.{NoneChosen}

@@ -1,11 +1,10 @@
 -- Definitions: what `proofs/Records` shows of the record after every history: bits that stay 0, and replies of at most 256.
 use Rattle.std.specs.Prelude.{◌≡◌, false, List, [], ◌∷◌}
 use Rattle.bits.specs.Bits.{bit_at}
-use Rattle.event.specs.declared.events.Made.{Made}
+use Rattle.event.specs.Events.{Made}
 use Rattle.registers.specs.declared.settings.Settings.{Settings}
 use Rattle.device.specs.declared.side.Side.{Side}
-use Rattle.device.specs.declared.device.Answer.{Answer}
-use Rattle.device.specs.Device.{channel_at}
+use Rattle.device.specs.Device.{channel_at, Answer}
 use Rattle.device.specs.Replies.{AnswerIn}
 use Rattle.history.specs.Demand3.{ran}
 

@@ -2,7 +2,7 @@
 -- queue, what is a read of it, what becomes of an arrival, mode by mode, and what is kept. `proofs/Rules` shows that judge and device
 -- go by them.
 use Prim.Native.Nat.{ℕ, ◌+◌, ◌%◌, ◌^◌}
-use Rattle.std.specs.Prelude.{◌≡◌, Bool, not, ◌&&◌, ◌||◌, ltb}
+use Rattle.std.specs.Prelude.{◌≡◌, Bool, not, ◌&&◌, ◌||◌, ltb, Ok, Err}
 use Rattle.std.proofs.Math.Bool.{true, false}
 use Rattle.std.proofs.Math.Dec.{eqb}
 use Rattle.bits.specs.Choice.{pick}
@@ -10,8 +10,7 @@ use Rattle.bits.specs.Bits.{differs, bit_at, part_at, replaced_at}
 use Rattle.queue.specs.Change.{Change, Add, Take, Clear, Stay}
 use Rattle.event.specs.declared.events.Event.{Event}
 use Rattle.event.specs.declared.events.Event.TheVariants as event
-use Rattle.event.specs.declared.events.Made.{Made}
-use Rattle.event.specs.declared.events.Made.TheVariants as made
+use Rattle.event.specs.Events.{Made}
 use Rattle.event.specs.declared.events.Touch.{Touch}
 use Rattle.event.specs.declared.events.Touch.TheVariants as touch
 use Rattle.registers.specs.declared.register.Register.{Register}
@@ -97,8 +96,8 @@ event_change w l event.Reset = Clear
 event_change w l event.IrqLook = Stay
 
 abbrev pub change_of : Side → Ledger → Made → Change
-change_of w l (made.Event e) = event_change w l e
-change_of w l (made.Refused r) = Stay
+change_of w l (Ok e) = event_change w l e
+change_of w l (Err r) = Stay
 
 -- ---- the stored registers after an arrival: EFCR 0 and EFR 5 set, "ninth bit 1 and equal to XOFF2 clears EFCR 1 ..; ninth bit 1 and
 -- unequal sets EFCR 1"; no other arrival sets any

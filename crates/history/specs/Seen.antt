@@ -1,6 +1,6 @@
 -- For proofs alone: what an event makes of each channel of a device whose stored registers the judge has, as `proofs/Seen` shows.
 use Rattle.std.specs.Prelude.{ℕ, ◌≡◌}
-use Rattle.event.specs.declared.events.Made.{Made}
+use Rattle.event.specs.Events.{Made}
 use Rattle.channel.specs.declared.channel.Channel.{Channel}
 use Rattle.acts.specs.Step.{touched_by}
 use Rattle.device.specs.declared.side.Side.{Side}

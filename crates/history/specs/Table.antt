@@ -1,13 +1,13 @@
 -- Laws: P1 to P12 of "Cases on each side", as one table: what the definitions give, beside what document 01 says.
-use Rattle.std.specs.Prelude.{ℕ, ◌≡◌, refl, List, [], ◌∷◌, ◌++◌, map, replicate}
+use Rattle.std.specs.Prelude.{ℕ, ◌≡◌, refl, List, [], ◌∷◌, ◌++◌, map, replicate, Result, Ok, Err}
 use Rattle.bits.specs.Bits.{one_if, differs, bit_at, part_at, replaced_at, cut_to}
 use Rattle.queue.specs.Queue.{empty_queue, oldest_of, marked_from, any_mark_of, adds_to, takes_from, clears_all, stays_as, moved_by, after_of}
 use Rattle.event.specs.declared.events.Event.{Event}
 use Rattle.event.specs.declared.events.Event.TheVariants as event
 use Rattle.event.specs.declared.events.Touch.TheVariants as touch
 use Rattle.event.specs.Refusals.{refusal_number}
+use Rattle.event.specs.declared.refusal.Refusal.{Refusal}
 use Rattle.file.specs.declared.number.Number.{Number}
-use Rattle.file.specs.declared.number.Number.TheVariants as number
 use Rattle.file.specs.Numbers.{second_at, number_at}
 use Rattle.registers.specs.Windows.{general_at, enhanced_at, register_at, tcr_open}
 use Rattle.registers.specs.Writes.{guard_open, ier_written, fcr_written, efcr_written, taken_by, no_setting, setting_of, if_set, with_setting, resets_device}
@@ -46,13 +46,13 @@ abbrev after : List Event → List Event → List ℕ
 after before further = replies_from (device_after new_device before) further
 
 -- the number at the start of an input, and the refusal of a broken one
-abbrev value_of : Number → List ℕ
-value_of (number.Value value next) = value ∷ []
-value_of (number.Broken r) = []
+abbrev value_of : Result Number Refusal → List ℕ
+value_of (Ok number) = number.value ∷ []
+value_of (Err r) = []
 
-abbrev refusal_of : Number → List ℕ
-refusal_of (number.Value value next) = []
-refusal_of (number.Broken r) = refusal_number r ∷ []
+abbrev refusal_of : Result Number Refusal → List ℕ
+refusal_of (Ok number) = []
+refusal_of (Err r) = refusal_number r ∷ []
 
 -- events of channel 0
 abbrev write : ℕ → ℕ → Event

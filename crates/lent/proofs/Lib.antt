@@ -1,2 +1,2 @@
 -- For proofs alone: what the proofs of the lent step share.
-pub mod Ways
+pub mod Stored

@@ -1,23 +1,19 @@
 -- Laws: what happens at a lent channel is in range, a lent record stays well formed, and the number tells the answer.
-use Rattle.std.specs.Prelude.{ℕ, ◌≡◌}
+use Rattle.std.specs.Prelude.{ℕ, ◌≡◌, Ok}
 use Rattle.std.proofs.Common.{sym, ◌∙◌}
+use Rattle.event.specs.declared.events.Touch.{Touch}
 use Rattle.event.specs.declared.events.Event.TheVariants as event
-use Rattle.event.specs.declared.events.Made.{Made}
-use Rattle.event.specs.declared.events.Made.TheVariants as made
-use Rattle.event.specs.Events.{TouchIn, event_of}
+use Rattle.event.specs.Events.{Made, TouchIn, InRange, event_of}
 use Rattle.device.specs.declared.device.Device.{Device}
 use Rattle.device.specs.Device.{WellFormed, answered_of}
 use Rattle.device.specs.Laws.{MadeIn, made_in, well_formed_answered}
 use Rattle.device.specs.Replies.{answers_told_apart}
 use Rattle.lent.specs.Lent.{Advanced}
-use Rattle.lent.specs.Way.{way_to, way_aside, way_of}
 
-pub way_in : (m : Made) → MadeIn m → TouchIn (way_of m).touch
-unfolding way_of way_to way_aside
-way_in (made.Event (event.At channel t)) range = range.1
-way_in (made.Event event.Reset) range = tt
-way_in (made.Event event.IrqLook) range = tt
-way_in (made.Refused r) range = tt
+pub touch_in : (m : Made) {channel : ℕ} {t : Touch} → MadeIn m → m ≡ Ok (event.At channel t) → TouchIn t
+touch_in m {channel} {t} range is =
+    let named : InRange (event.At channel t) = rw is at range in
+    named.1
 
 pub well_formed_advanced : (d after : Device) (kind x y z number : ℕ)
     → WellFormed d → Advanced d (event_of kind x y z) after number → WellFormed after

@@ -1,4 +1,3 @@
--- What the contracts of `lent` cite: `Lent` is what a reader must believe, `Way` what the code goes by. `Laws` is proved of them.
+-- What the contracts of `lent` cite. `Laws` is proved of it.
 pub mod Lent
-pub mod Way
 pub mod Laws

@@ -2,6 +2,5 @@
 #![tactic(auto)]
 
 mod thin;
-mod way;
 
 pub use thin::advance;

@@ -2,7 +2,7 @@
 use Prim.Native.Nat.{ℕ, zero, suc, ◌+◌, ◌-◌, ◌<◌, ◌≤◌}
 use Rattle.std.proofs.Math.Nat.{zero-add, suc-add}
 use native.Mathlib.Omega.{arith}
-use Rattle.std.specs.Prelude.{◌≡◌, Bool, length}
+use Rattle.std.specs.Prelude.{◌≡◌, Bool, length, None, Some, Ok, Err}
 use Rattle.std.proofs.Math.Path.{refl, ap}
 use Rattle.std.proofs.Common.{◌∙◌}
 use Rattle.std.proofs.Math.Bool.{true, false}
@@ -11,19 +11,15 @@ use Rattle.bits.specs.Choice.{pick, pick_by}
 use Rattle.event.specs.declared.refusal.Refusal.{Refusal}
 use Rattle.event.specs.declared.refusal.Refusal.TheVariants as refusal
 use Rattle.event.specs.declared.events.Event.{Event}
-use Rattle.event.specs.declared.events.Made.TheVariants as made
 use Rattle.event.specs.Refusals.{refusal_number}
-use Rattle.event.specs.Events.{judged_of}
+use Rattle.event.specs.Events.{Made, judged_of}
 use Rattle.event.specs.Laws.{in_range_judged}
 use Rattle.file.specs.declared.reading.Reading.{Reading}
-use Rattle.file.specs.declared.reading.Reading.TheVariants as reading
-use Rattle.file.specs.Reading.{read_at}
-use Rattle.file.specs.Laws.{ReadingFrom}
+use Rattle.file.specs.Reading.{Standing, read_at}
+use Rattle.file.specs.Laws.{OutcomeIn, ReadingFrom}
 use Rattle.file.proofs.Laws.{reading_from, long_refused}
-use Rattle.file.proofs.Theorems.{read_in_range}
-use Rattle.device.specs.Laws.{well_formed_new, well_formed_answered}
+use Rattle.device.specs.Laws.{MadeIn, well_formed_new, well_formed_answered}
 use Rattle.run.specs.declared.cursor.Cursor.{Cursor}
-use Rattle.run.specs.declared.cursor.Said.TheVariants as said
 use Rattle.run.specs.declared.cursor.Progress.{Progress}
 use Rattle.text.specs.Text.{line_with}
 use Rattle.text.specs.Laws.{below_or_not, one_digit, five_digits, line_length}
@@ -51,8 +47,15 @@ refused_length index r i =
     rw line_length (omega (arith, five_digits index (omega arith), one_digit (refusal_number r) (refusal_digit r)))
 
 -- ---- an event that was read is the one that is judged
-pub read_judged : (s : List ℕ) (at : ℕ) {e : Event} {next : ℕ} → read_at s at ≡ reading.Event e next → judged_of e ≡ made.Event e
-read_judged s at {e} read = in_range_judged e (read_in_range s at read)
+pub read_judged : (s : List ℕ) (at : ℕ) (read : Reading) {e : Event} → read_at s at ≡ Ok (Some read) → read.event ≡ Ok e → judged_of e ≡ Ok e
+read_judged s at read {e} is event =
+    let from : ReadingFrom s at (Ok (Some read)) = rw is at (reading_from s at) in
+    in_range_judged e (rw event at from.2)
+
+-- and one that is refused is out of range of nothing that is stored
+pub outcome_made : (m : Made) → OutcomeIn m → MadeIn m
+outcome_made (Ok e) range = range
+outcome_made (Err r) range = tt
 
 -- ---- every step keeps the cursor well formed
 pub well_formed_new_cursor : WellFormed new_cursor
@@ -60,21 +63,15 @@ unfolding new_cursor
 well_formed_new_cursor = record { device_in = well_formed_new; index_in = omega arith; place_in = omega arith }
 
 module _ (s : List ℕ) (c : Cursor) (ok : WellFormed c) where
-  well_formed_by : length s ≤ 65536 → (r : Reading) → ReadingFrom s c.place r → WellFormed (progress_by c r).cursor
-  well_formed_by short (reading.Event e next) from =
+  well_formed_by : length s ≤ 65536 → (r : Standing) → ReadingFrom s c.place r → WellFormed (progress_by c r).cursor
+  well_formed_by short (Ok (Some read)) from =
       record {
-        device_in = well_formed_answered c.device (made.Event e) from.2 ok.device_in;
+        device_in = well_formed_answered c.device read.event (outcome_made read.event from.2) ok.device_in;
         index_in = omega (arith, ok.index_in, from.0);
         place_in = omega (arith, from.1);
       }
-  well_formed_by short (reading.Refused r next) from =
-      record {
-        device_in = well_formed_answered c.device (made.Refused r) tt ok.device_in;
-        index_in = omega (arith, ok.index_in, from.0);
-        place_in = omega (arith, from.1);
-      }
-  well_formed_by short (reading.Ended r) from = record { device_in = ok.device_in; index_in = ok.index_in; place_in = ok.place_in }
-  well_formed_by short reading.End from = record { device_in = ok.device_in; index_in = ok.index_in; place_in = ok.place_in }
+  well_formed_by short (Err r) from = record { device_in = ok.device_in; index_in = ok.index_in; place_in = ok.place_in }
+  well_formed_by short (Ok None) from = record { device_in = ok.device_in; index_in = ok.index_in; place_in = ok.place_in }
 
   pub well_formed_progress : WellFormed (progress_of s c).cursor
   unfolding progress_of
@@ -92,15 +89,15 @@ well_formed_after (suc n) s c ok = well_formed_after n s (progress_of s c).curso
 
 -- ---- a run that is over says nothing more and stays as it is
 module _ (s : List ℕ) where
-  over_progress : (c : Cursor) → c.over ≡ true → progress_of s c ≡ record { cursor = c; said = said.Nothing }
+  over_progress : (c : Cursor) → c.over ≡ true → progress_of s c ≡ record { cursor = c; said = None }
   unfolding progress_of
   over_progress c over =
-      ap (λ (b : Bool). pick b (record { cursor = c; said = said.Nothing }) (progress_by c (read_at s c.place))) over
+      ap (λ (b : Bool). pick b (record { cursor = c; said = None }) (progress_by c (read_at s c.place))) over
 
   pub going_progress : (c : Cursor) → c.over ≡ false → progress_of s c ≡ progress_by c (read_at s c.place)
   unfolding progress_of
   going_progress c going =
-      ap (λ (b : Bool). pick b (record { cursor = c; said = said.Nothing }) (progress_by c (read_at s c.place))) going
+      ap (λ (b : Bool). pick b (record { cursor = c; said = None }) (progress_by c (read_at s c.place))) going
 
   pub going_cursor : (n : ℕ) (c : Cursor) → c.over ≡ false → cursor_after (suc n) s c ≡ cursor_after n s (progress_by c (read_at s c.place)).cursor
   unfolding cursor_after
@@ -137,11 +134,10 @@ module _ (s : List ℕ) where
   text_more n c = text_sum n 1 c ∙ rw append-nil
 
 module _ (s : List ℕ) where
-  nearer_by : (c : Cursor) (r : Reading) → ReadingFrom s c.place r → left s (progress_by c r).cursor < suc (length s - c.place)
-  nearer_by c (reading.Event e next) from = omega (arith, from.0, from.1)
-  nearer_by c (reading.Refused r next) from = omega (arith, from.0, from.1)
-  nearer_by c (reading.Ended r) from = omega arith
-  nearer_by c reading.End from = omega arith
+  nearer_by : (c : Cursor) (r : Standing) → ReadingFrom s c.place r → left s (progress_by c r).cursor < suc (length s - c.place)
+  nearer_by c (Ok (Some read)) from = omega (arith, from.0, from.1)
+  nearer_by c (Err r) from = omega arith
+  nearer_by c (Ok None) from = omega arith
 
   -- every step of a run that is not over brings it nearer to its end
   pub nearer : (c : Cursor) → c.over ≡ false → left s (progress_of s c).cursor < left s c

@@ -2,20 +2,16 @@
 -- hold its text.
 use Prim.Native.Nat.{ℕ, zero, suc, ◌+◌, ◌/◌, ◌<◌, ◌≤◌}
 use native.Mathlib.Omega.{arith}
-use Rattle.std.specs.Prelude.{◌≡◌, true, false, length, take}
+use Rattle.std.specs.Prelude.{◌≡◌, true, false, length, take, None, Some, Ok, Err}
 use Rattle.std.proofs.Math.Path.{refl, sym, ap}
 use Rattle.std.proofs.Common.{◌∙◌, length-append}
 use mathlib.Core.List.{List, [], ◌∷◌, ◌++◌, append-nil}
 use Rattle.std.proofs.Math.Seq.{take-append_seam}
 use Rattle.event.specs.declared.refusal.Refusal.TheVariants as refusal
-use Rattle.event.specs.declared.events.Made.TheVariants as made
-use Rattle.file.specs.declared.reading.Reading.{Reading}
-use Rattle.file.specs.declared.reading.Reading.TheVariants as reading
-use Rattle.file.specs.Reading.{read_at}
+use Rattle.file.specs.Reading.{Standing, read_at}
 use Rattle.file.specs.Laws.{ReadingFrom}
 use Rattle.file.proofs.Laws.{reading_from, long_refused, past_the_end}
 use Rattle.device.specs.declared.device.Device.{Device}
-use Rattle.device.specs.declared.device.Answer.TheVariants as answer
 use Rattle.device.specs.Reset.{new_device}
 use Rattle.device.specs.Device.{answered_of}
 use Rattle.run.specs.declared.cursor.Cursor.{Cursor}
@@ -32,13 +28,12 @@ use Rattle.run.specs.Theorems.{CountedFrom, RoomInEach, cursor_after_fills, line
 -- ---- every run ends: as many steps as there are bytes are enough, and more change nothing
 module _ (s : List ℕ) where
   -- two counts give the same answers by a reading if they do from any place after it
-  same_by : (j k at index : ℕ) (d : Device) (r : Reading) → ReadingFrom s at r
+  same_by : (j k at index : ℕ) (d : Device) (r : Standing) → ReadingFrom s at r
       → ((next i : ℕ) (e : Device) → at < next → run_from j s next i e ≡ run_from k s next i e)
       → run_by (run_from j s) index d r ≡ run_by (run_from k s) index d r
-  same_by j k at index d (reading.Event e next) from same = rw (same next (index + 1) (answered_of d (made.Event e)).device from.0)
-  same_by j k at index d (reading.Refused r next) from same = rw (same next (index + 1) (answered_of d (made.Refused r)).device from.0)
-  same_by j k at index d (reading.Ended r) from same = refl
-  same_by j k at index d reading.End from same = refl
+  same_by j k at index d (Ok (Some read)) from same = rw (same read.next (index + 1) (answered_of d read.event).device from.0)
+  same_by j k at index d (Err r) from same = refl
+  same_by j k at index d (Ok None) from same = refl
 
   short_enough : length s ≤ 65536 → (j k at index : ℕ) (d : Device) → length s ≤ at + j → length s ≤ at + k
       → run_from j s at index d ≡ run_from k s at index d
@@ -50,7 +45,7 @@ module _ (s : List ℕ) where
       same_by j k at index d (read_at s at) (reading_from s at)
       (λ next i e past. short_enough short j k next i e (omega arith) (omega arith))
 
-  long_enough : 65536 < length s → (k : ℕ) → 0 < k → run_up_to k s ≡ record { index = 0; answer = answer.Refused refusal.Long } ∷ []
+  long_enough : 65536 < length s → (k : ℕ) → 0 < k → run_up_to k s ≡ record { index = 0; answer = Err refusal.Long } ∷ []
   unfolding run_from
   long_enough long zero some = absurd (omega arith)
   long_enough long (suc k) some = rw (long_refused s 0 long)
@@ -62,12 +57,11 @@ module _ (s : List ℕ) where
       (λ long. long_enough long k (omega arith) ∙ sym (long_enough long (length s) (omega arith)))
       (λ short. short_enough short k (length s) 0 0 new_device (omega arith) (omega arith))
 
-  most_by : (k index : ℕ) (d : Device) (r : Reading) → ((next i : ℕ) (e : Device) → length (run_from k s next i e) ≤ k)
+  most_by : (k index : ℕ) (d : Device) (r : Standing) → ((next i : ℕ) (e : Device) → length (run_from k s next i e) ≤ k)
       → length (run_by (run_from k s) index d r) ≤ suc k
-  most_by k index d (reading.Event e next) most = omega (arith, most next (index + 1) (answered_of d (made.Event e)).device)
-  most_by k index d (reading.Refused r next) most = omega (arith, most next (index + 1) (answered_of d (made.Refused r)).device)
-  most_by k index d (reading.Ended r) most = omega arith
-  most_by k index d reading.End most = omega arith
+  most_by k index d (Ok (Some read)) most = omega (arith, most read.next (index + 1) (answered_of d read.event).device)
+  most_by k index d (Err r) most = omega arith
+  most_by k index d (Ok None) most = omega arith
 
   at_most : (k at index : ℕ) (d : Device) → length (run_from k s at index d) ≤ k
   unfolding run_from
@@ -79,12 +73,11 @@ module _ (s : List ℕ) where
   no_more_answers_than_bytes = at_most (length s) 0 0 new_device
 
 module _ (s : List ℕ) where
-  counted_by : (k index : ℕ) (d : Device) (r : Reading) → ((next i : ℕ) (e : Device) → CountedFrom i (run_from k s next i e))
+  counted_by : (k index : ℕ) (d : Device) (r : Standing) → ((next i : ℕ) (e : Device) → CountedFrom i (run_from k s next i e))
       → CountedFrom index (run_by (run_from k s) index d r)
-  counted_by k index d (reading.Event e next) counted = (refl, counted next (index + 1) (answered_of d (made.Event e)).device)
-  counted_by k index d (reading.Refused r next) counted = (refl, counted next (index + 1) (answered_of d (made.Refused r)).device)
-  counted_by k index d (reading.Ended r) counted = (refl, tt)
-  counted_by k index d reading.End counted = tt
+  counted_by k index d (Ok (Some read)) counted = (refl, counted read.next (index + 1) (answered_of d read.event).device)
+  counted_by k index d (Err r) counted = (refl, tt)
+  counted_by k index d (Ok None) counted = tt
 
   counted : (k at index : ℕ) (d : Device) → CountedFrom index (run_from k s at index d)
   unfolding run_from
@@ -108,15 +101,14 @@ long_input s long = rw (long_enough s long (length s) (omega arith))
 
 -- ---- a run taken step by step says the text of its answers
 module _ (s : List ℕ) where
-  said_by : (n : ℕ) (c : Cursor) (r : Reading)
+  said_by : (n : ℕ) (c : Cursor) (r : Standing)
       → ((e : Cursor) → e.over ≡ false → text_in n s e ≡ lines_of (run_from n s e.place e.index e.device))
       → text_said c.index (progress_by c r).said ++ text_in n s (progress_by c r).cursor
       ≡ lines_of (run_by (run_from n s) c.index c.device r)
   unfolding text_said lines_of
-  said_by n c (reading.Event e next) same = rw (same (progress_by c (reading.Event e next)).cursor refl)
-  said_by n c (reading.Refused r next) same = rw (same (progress_by c (reading.Refused r next)).cursor refl)
-  said_by n c (reading.Ended r) same = rw (over_silent s n (ended_at c) refl)
-  said_by n c reading.End same = over_silent s n (ended_at c) refl
+  said_by n c (Ok (Some read)) same = rw (same (progress_by c (Ok (Some read))).cursor refl)
+  said_by n c (Err r) same = rw (over_silent s n (ended_at c) refl)
+  said_by n c (Ok None) same = over_silent s n (ended_at c) refl
 
   steps_say_the_answers : (n : ℕ) (c : Cursor) → c.over ≡ false
       → text_in n s c ≡ lines_of (run_from n s c.place c.index c.device)

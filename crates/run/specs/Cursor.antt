@@ -1,18 +1,12 @@
 -- Definitions: a run taken step by step, and a buffer filled with the lines of its next steps.
-use Rattle.std.specs.Prelude.{ℕ, zero, suc, ◌+◌, ◌≤◌, true, false, List, [], ◌++◌, length}
+use Rattle.std.specs.Prelude.{ℕ, zero, suc, ◌+◌, ◌≤◌, true, false, List, [], ◌++◌, length, Ok, Err, None, Some, Option}
 use Rattle.bits.specs.Choice.{pick}
-use Rattle.event.specs.declared.events.Made.TheVariants as made
-use Rattle.file.specs.declared.reading.Reading.{Reading}
-use Rattle.file.specs.declared.reading.Reading.TheVariants as reading
-use Rattle.file.specs.Reading.{read_at}
-use Rattle.device.specs.declared.device.Answer.TheVariants as answer
+use Rattle.file.specs.Reading.{Standing, read_at}
 use Rattle.device.specs.declared.device.Outcome.{Outcome}
 use Rattle.device.specs.Reset.{new_device}
 use Rattle.device.specs.Device as device
-use Rattle.device.specs.Device.{answered_of}
+use Rattle.device.specs.Device.{answered_of, Answer}
 use Rattle.run.specs.declared.cursor.Cursor.{Cursor}
-use Rattle.run.specs.declared.cursor.Said.{Said}
-use Rattle.run.specs.declared.cursor.Said.TheVariants as said
 use Rattle.run.specs.declared.cursor.Progress.{Progress}
 use Rattle.run.specs.declared.cursor.Filled.{Filled}
 use Rattle.run.specs.Lines.{line_of}
@@ -36,23 +30,22 @@ abbrev pub going_on : Cursor → ℕ → Outcome → Progress
 going_on c next outcome =
     record {
       cursor = record { device = outcome.device; place = next; index = c.index + 1; over = false };
-      said = said.Answer outcome.answer;
+      said = Some outcome.answer;
     }
 
 -- after 1, 2, 3 and 9 "run ends", after 4 to 8 "next event"
-abbrev pub progress_by : Cursor → Reading → Progress
-progress_by c (reading.Event e next) = going_on c next (answered_of c.device (made.Event e))
-progress_by c (reading.Refused r next) = going_on c next (answered_of c.device (made.Refused r))
-progress_by c (reading.Ended r) = record { cursor = ended_at c; said = said.Answer (answer.Refused r) }
-progress_by c reading.End = record { cursor = ended_at c; said = said.Nothing }
+abbrev pub progress_by : Cursor → Standing → Progress
+progress_by c (Ok (Some read)) = going_on c read.next (answered_of c.device read.event)
+progress_by c (Err r) = record { cursor = ended_at c; said = Some (Err r) }
+progress_by c (Ok None) = record { cursor = ended_at c; said = None }
 
 -- one step; a run that is over says nothing more
 unfoldable pub progress_of : List ℕ → Cursor → Progress
-progress_of s c = pick c.over (record { cursor = c; said = said.Nothing }) (progress_by c (read_at s c.place))
+progress_of s c = pick c.over (record { cursor = c; said = None }) (progress_by c (read_at s c.place))
 
-unfoldable pub text_said : ℕ → Said → List ℕ
-text_said index (said.Answer a) = line_of index a
-text_said index said.Nothing = []
+unfoldable pub text_said : ℕ → Option Answer → List ℕ
+text_said index (Some a) = line_of index a
+text_said index None = []
 
 -- the text of a number of steps, and the cursor after them
 unfoldable pub text_in : ℕ → List ℕ → Cursor → List ℕ

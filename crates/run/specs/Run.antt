@@ -1,15 +1,10 @@
 -- Definitions: a run over a whole input: its answers, each with its index, and the text that the bench prints.
-use Rattle.std.specs.Prelude.{ℕ, zero, suc, ◌+◌, List, [], ◌∷◌, ◌++◌, length}
-use Rattle.event.specs.declared.events.Made.TheVariants as made
-use Rattle.file.specs.declared.reading.Reading.{Reading}
-use Rattle.file.specs.declared.reading.Reading.TheVariants as reading
-use Rattle.file.specs.Reading.{read_at}
+use Rattle.std.specs.Prelude.{ℕ, zero, suc, ◌+◌, List, [], ◌∷◌, ◌++◌, length, None, Some, Ok, Err}
+use Rattle.file.specs.Reading.{Standing, read_at}
 use Rattle.device.specs.declared.device.Device.{Device}
-use Rattle.device.specs.declared.device.Answer.{Answer}
-use Rattle.device.specs.declared.device.Answer.TheVariants as answer
 use Rattle.device.specs.declared.device.Outcome.{Outcome}
 use Rattle.device.specs.Reset.{new_device}
-use Rattle.device.specs.Device.{answered_of}
+use Rattle.device.specs.Device.{answered_of, Answer}
 use Rattle.run.specs.Lines.{line_of}
 
 pub record Indexed : Type 0 where
@@ -21,11 +16,10 @@ abbrev pub answered_then : (ℕ → ℕ → Device → List Indexed) → ℕ →
 answered_then rest next index outcome = record { index = index; answer = outcome.answer } ∷ rest next (index + 1) outcome.device
 
 -- after 1, 2, 3 and 9 "run ends", after 4 to 8 "next event"; "A refused event leaves the device unchanged"
-abbrev pub run_by : (ℕ → ℕ → Device → List Indexed) → ℕ → Device → Reading → List Indexed
-run_by rest index d (reading.Event e next) = answered_then rest next index (answered_of d (made.Event e))
-run_by rest index d (reading.Refused r next) = answered_then rest next index (answered_of d (made.Refused r))
-run_by rest index d (reading.Ended r) = record { index = index; answer = answer.Refused r } ∷ []
-run_by rest index d reading.End = []
+abbrev pub run_by : (ℕ → ℕ → Device → List Indexed) → ℕ → Device → Standing → List Indexed
+run_by rest index d (Ok (Some read)) = answered_then rest read.next index (answered_of d read.event)
+run_by rest index d (Err r) = record { index = index; answer = Err r } ∷ []
+run_by rest index d (Ok None) = []
 
 -- the answers from a place on, at most so many
 unfoldable pub run_from : ℕ → List ℕ → ℕ → ℕ → Device → List Indexed

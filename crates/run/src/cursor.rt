@@ -1,14 +1,12 @@
 // How far a run is, its next step, and a buffer filled with its next lines.
-ghost use Rattle.std.specs.Prelude.{◌≡◌, false, ◌++◌, ◌+◌, ◌/◌, ◌≤◌, length, drop};
+ghost use Rattle.std.specs.Prelude.{◌≡◌, ◌++◌, ◌+◌, ◌/◌, ◌≤◌, length, drop, Err};
 ghost use Rattle.std.proofs.lemmas.List.Edits.{sets};
-ghost use Rattle.event.specs.declared.events.Made.TheVariants as made;
-ghost use Rattle.event.specs.Events.{judged_of};
 ghost use Rattle.device.specs.Device.{answered_of};
 ghost use Rattle.run.specs.Cursor.{WellFormed, new_cursor, ended_at, going_on, progress_of, text_said, text_in, filled_by};
 
 use crate::line::put_answer;
-use device::{Answer, Device};
-use event::{Event, Refusal};
+use device::{Answer, Device, Outcome};
+use event::Refusal;
 use file::{Reading, read_at};
 
 // The bytes of the longest line.
@@ -23,18 +21,11 @@ pub struct Cursor {
     pub over: bool,
 }
 
-// What a step says: an answer under the cursor's index, or nothing.
-#[derive(Clone, Copy)]
-enum Said {
-    Answer(Answer),
-    Nothing,
-}
-
-// The cursor after a step, and what the step says.
+// The cursor after a step, and what the step says: an answer under the cursor's index before it, or nothing.
 #[derive(Clone, Copy)]
 struct Progress {
     cursor: Cursor,
-    said: Said,
+    said: Option<Answer>,
 }
 
 // The cursor after the lines that were put into a buffer, and how many bytes they are.
@@ -44,18 +35,20 @@ pub struct Filled {
     pub count: usize,
 }
 
-fn put_said(out: &mut [u8], at: usize, index: u32, said: Said) -> usize
+#[tactic(auto, unfolding(crate::specs::Cursor::text_said))]
+fn put_said(out: &mut [u8], at: usize, index: u32, said: Option<Answer>) -> usize
     requires { (index ≤ 65536) × (at + 16 ≤ length out.old) }
     ensures value { (result ≡ at + length (text_said index said)) × (result ≤ at + 16) }
     ensures out_after { out.new ≡ sets out.old at (text_said index said) }
 {
     match said {
-        Said::Answer(answer) => put_answer(out, at, index, answer),
-        Said::Nothing => at,
+        Some(answer) => put_answer(out, at, index, answer),
+        None => at,
     }
 }
 
 impl Cursor {
+    #[tactic(auto, unfolding(crate::specs::Cursor::new_cursor))]
     pub fn new() -> Cursor
         ensures { result ≡ new_cursor }
     {
@@ -68,53 +61,46 @@ impl Cursor {
     }
 
     // The run over, with what is said last.
-    fn ended(self, said: Said) -> Progress
+    fn ended(self, said: Option<Answer>) -> Progress
         ensures { result ≡ record { cursor = ended_at self; said = said } }
     {
-        let mut cursor = self;
-        cursor.over = true;
         Progress {
-            cursor: cursor,
-            said: said,
+            cursor: Cursor { over: true, ..self },
+            said,
         }
     }
 
-    // After an event that ends before a place.
-    fn answered(self, event: Event, next: usize) -> Progress
+    // After an event that ends before a place and comes to an outcome.
+    fn going_on(self, next: usize, outcome: Outcome) -> Progress
         requires { WellFormed self }
-        ensures { result ≡ going_on self next (answered_of self.device (judged_of event)) }
+        ensures { result ≡ going_on self next outcome }
     {
-        let done = self.device.step(event);
-        let now = done.device;
-        let answer = done.answer;
-        let cursor = Cursor {
-            device: now,
-            place: next,
-            index: self.index + 1,
-            over: false,
-        };
         Progress {
-            cursor: cursor,
-            said: Said::Answer(answer),
+            cursor: Cursor {
+                device: outcome.device,
+                place: next,
+                index: self.index + 1,
+                over: false,
+            },
+            said: Some(outcome.answer),
         }
     }
 
-    // After a refused event that ends before a place, of a run that goes on.
+    // The same of a refused event, which leaves the device as it was.
+    #[tactic(auto, unfolding(device::specs::Device::answered_of))]
     fn passed_over(self, refusal: Refusal, next: usize) -> Progress
-        requires { WellFormed self × (self.over ≡ false) }
-        ensures { result ≡ going_on self next (answered_of self.device (made.Refused refusal)) }
+        requires { WellFormed self }
+        ensures { result ≡ going_on self next (answered_of self.device (Err refusal)) }
     {
-        let index = self.index + 1;
-        let mut cursor = self;
-        cursor.place = next;
-        cursor.index = index;
-        Progress {
-            cursor: cursor,
-            said: Said::Answer(Answer::Refused(refusal)),
-        }
+        let unchanged = Outcome {
+            device: self.device,
+            answer: Err(refusal),
+        };
+        self.going_on(next, unchanged)
     }
 
     // One event read and answered.
+    #[tactic(auto, using(crate::proofs::Laws::read_judged), unfolding(crate::specs::Cursor::progress_of))]
     fn proceed(self, input: &[u8]) -> Progress
         requires { WellFormed self }
         ensures { result ≡ progress_of input.now self }
@@ -122,14 +108,16 @@ impl Cursor {
         if self.over {
             return Progress {
                 cursor: self,
-                said: Said::Nothing,
+                said: None,
             };
         }
         match read_at(input, self.place) {
-            Reading::Event { event, next } => self.answered(event, next),
-            Reading::Refused { refusal, next } => self.passed_over(refusal, next),
-            Reading::Ended(refusal) => self.ended(Said::Answer(Answer::Refused(refusal))),
-            Reading::End => self.ended(Said::Nothing),
+            Ok(Some(Reading { event, next })) => match event {
+                Ok(event) => self.going_on(next, self.device.step(event)),
+                Err(refusal) => self.passed_over(refusal, next),
+            },
+            Ok(None) => self.ended(None),
+            Err(refusal) => self.ended(Some(Err(refusal))),
         }
     }
 
@@ -139,26 +127,16 @@ impl Cursor {
         ensures value { result ≡ filled_by (length out.old / 16) input.now self }
         ensures out_after { out.new ≡ text_in (length out.old / 16) input.now self ++ drop result.count out.old }
     {
-        let lines = out.len() / LINE;
         let mut cursor = self;
         let mut count = 0;
-        let mut i = 0;
-        while i < lines {
+        for _ in 0..out.len() / LINE {
             if cursor.over {
-                return Filled {
-                    cursor: cursor,
-                    count: count,
-                };
+                return Filled { cursor, count };
             }
             let progress = cursor.proceed(input);
-            let said = progress.said;
-            count = put_said(out, count, cursor.index, said);
+            count = put_said(out, count, cursor.index, progress.said);
             cursor = progress.cursor;
-            i += 1;
         }
-        Filled {
-            cursor: cursor,
-            count: count,
-        }
+        Filled { cursor, count }
     }
 }

@@ -10,7 +10,7 @@ pub loop-cursor-init : goal.loop-cursor-init
 loop-cursor-init c = rw c.new-cursor.ensures well_formed_new_cursor
 
 pub loop-cursor-smaller : goal.loop-cursor-smaller
-loop-cursor-smaller c = rw c.write_next-turn.ensures (nearer_after _ 4096 _ (omega arith) (not_over _ c.loop-cursor-test.true))
+loop-cursor-smaller c = rw c.in_ok-cursor.ensures (nearer_after _ 4096 _ (omega arith) (not_over _ c.loop-cursor-test.true))
 
 pub loop-cursor-preserved : goal.loop-cursor-preserved
-loop-cursor-preserved c = rw c.write_next-turn.ensures (well_formed_after 4096 _ _ c.loop-cursor.invariant)
+loop-cursor-preserved c = rw c.in_ok-cursor.ensures (well_formed_after 4096 _ _ c.loop-cursor.invariant)
