@@ -1,7 +1,7 @@
 -- Definitions: what an event does at the channel that it names, kind by kind: "Within an event: the act, ..". The register
 -- that it sets, what happens to the queues and whether the device is reset go by the stored registers (Touches), alike for
 -- every kind; what becomes of the lines, and the reply, each kind says here.
-use Rattle.std.specs.Prelude.{ℕ, Bool, false, not, ◌&&◌, ◌||◌, eqb}
+use Rattle.std.specs.Prelude.{ℕ, Bool, false, not, ◌&&◌, ◌||◌, eqb, None}
 use Rattle.bits.specs.Choice.{pick}
 use Rattle.bits.specs.Bits.{one_if}
 use Rattle.queue.specs.declared.Moved.{Moved}
@@ -11,7 +11,6 @@ use Rattle.event.specs.declared.events.Touch.{Touch}
 use Rattle.event.specs.declared.events.Touch.TheVariants as touch
 use Rattle.registers.specs.declared.register.Register.{Register}
 use Rattle.registers.specs.Windows.{register_at}
-use Rattle.registers.specs.Writes.{no_setting}
 use Rattle.levels.specs.Queues.{room_of, clears, loads}
 use Rattle.receiver.specs.Arrivals.{heard_of}
 use Rattle.receiver.specs.Line.{line_arrived, line_read, line_cleared, line_quieter, fate_number}
@@ -60,7 +59,7 @@ act_with ch t lines reply =
 -- an act that sets no register and leaves the queues as they are
 unfoldable pub lines_act : Channel → State → ℕ → Act
 lines_act ch lines reply =
-    record { setting = no_setting; state = lines; rx = stays_as ch.rx; tx = stays_as ch.tx; reply = reply; resets = false }
+    record { setting = None; state = lines; rx = stays_as ch.rx; tx = stays_as ch.tx; reply = reply; resets = false }
 
 -- ---- 0 write
 -- FCR: "a receive clear makes it 0", the quiet count; EFR: "Setting EFR 1:0 to 00 or 11 resumes", "EFR 3:2 set to 00 or 11, drops

@@ -1,9 +1,8 @@
 -- Laws: what a step comes to for the stored registers and the queues, and that acts, steps and a channel's record stay within
 -- their bounds.
-use Rattle.std.specs.Prelude.{ℕ, ◌<◌, ◌≤◌, ◌≡◌, refl, Bool, false}
-use Rattle.std.proofs.Common.{arith}
+use Rattle.std.specs.Prelude.{ℕ, ◌<◌, ◌≤◌, ◌≡◌, refl, Bool, None}
+use Rattle.std.proofs.Common.{arith, ◌∙◌}
 use Rattle.std.proofs.Math.Path.{ap}
-use Rattle.std.proofs.lemmas.Bool.{not-false}
 use Rattle.bits.specs.Choice.{pick, pick_by}
 use Rattle.bits.specs.Laws.{flag_in}
 use Rattle.queue.specs.Queue.{changed, oldest_of}
@@ -14,10 +13,10 @@ use Rattle.event.specs.Events.{TouchIn}
 use Rattle.registers.specs.declared.register.Register.TheVariants as register
 use Rattle.registers.specs.declared.settings.Settings.{Settings}
 use Rattle.registers.specs.Windows.{same, register_at}
-use Rattle.registers.specs.Writes.{with_setting}
+use Rattle.registers.specs.Writes.{with_any}
 use Rattle.registers.specs.Bounds.{SettingIn, SettingsIn}
 use Rattle.levels.specs.Queues.{room_of, clears}
-use Rattle.registers.specs.Laws.{same_is, closed_sets_none, none_in, setting_in}
+use Rattle.registers.specs.Laws.{none_in, setting_in}
 use Rattle.levels.specs.Laws.{room_in}
 use Rattle.receiver.specs.declared.line.Line.{Line}
 use Rattle.receiver.specs.Arrivals.{does_pass, heard_of}
@@ -50,7 +49,7 @@ act_shared ch touch.RtsLook = refl
 module _ (ch : Channel) (t : Touch) where
   pub step_settings : (step_at ch t).settings ≡ settings_after ch.settings t
   unfolding step_at settled_of settings_after act_with
-  step_settings = ap (λ act. with_setting ch.settings act.setting) (act_shared ch t)
+  step_settings = ap (λ act. with_any ch.settings act.setting) (act_shared ch t)
 
   pub step_resets : (step_at ch t).resets ≡ resets_by ch.settings t
   unfolding step_at settled_of act_with
@@ -61,10 +60,9 @@ module _ (ch : Channel) (t : Touch) where
   step_rx = ap (λ act. act.rx) (act_shared ch t)
 
   -- where no register is set, each holds what it held
-  pub none_set : (step_at ch t).sets ≡ false → (step_at ch t).settings ≡ ch.settings
+  pub none_set : (step_at ch t).setting ≡ None → (step_at ch t).settings ≡ ch.settings
   unfolding step_at settled_of
-  none_set h =
-      closed_sets_none ch.settings (act_of ch t).setting (same_is (act_of ch t).setting.register register.Closed (not-false _ h))
+  none_set none = rw none
 
   -- the channel after an event, part by part
   pub touched_settings : (touched_by ch t).settings ≡ settings_after ch.settings t

@@ -10,8 +10,6 @@ use Rattle.queue.specs.Change.{Stay}
 use Rattle.queue.specs.Queue.{stays_as, moved_by, oldest_of}
 use Rattle.queue.specs.Laws.{stays_after}
 use Rattle.event.specs.declared.events.Touch.TheVariants as touch
-use Rattle.registers.specs.Writes.{no_setting}
-use Rattle.registers.specs.Laws.{closed_sets_none}
 use Rattle.levels.specs.Queues.{transmits, loads}
 use Rattle.receiver.specs.declared.arrival.Gate.{Gate}
 use Rattle.receiver.specs.declared.arrival.Gate.TheVariants as gate
@@ -81,8 +79,8 @@ unfolding step_at settled_of act_of slot_act act_with
 slot_reply_lem ch = refl
 
 slot_settings : (ch : Channel) → (touched_by ch touch.Slot).settings ≡ ch.settings
-unfolding settings_after setting_by no_setting
-slot_settings ch = touched_settings ch touch.Slot ∙ closed_sets_none ch.settings no_setting refl
+unfolding settings_after setting_by
+slot_settings ch = touched_settings ch touch.Slot
 
 -- where the flow is not free, nothing is loaded from the queue
 not_free : (ch : Channel) → free_to_load ch.state.flow ≡ false → loads_oldest ch ≡ false

@@ -8,10 +8,9 @@ use Rattle.event.specs.declared.events.Touch.{Touch}
 use Rattle.event.specs.declared.events.Touch.TheVariants as touch
 use Rattle.registers.specs.declared.register.Register.TheVariants as register
 use Rattle.registers.specs.Windows.{register_at}
-use Rattle.registers.specs.Writes.{no_setting, setting_of}
+use Rattle.registers.specs.Writes.{setting_of}
 use Rattle.registers.specs.Pairs.{pair_at}
 use Rattle.levels.specs.Queues.{clears}
-use Rattle.registers.specs.Laws.{closed_sets_none}
 use Rattle.receiver.specs.Line.{line_read, line_cleared}
 use Rattle.lines.specs.Transmit.{thr_condition}
 use Rattle.lines.specs.Rts.{latch_after}
@@ -80,19 +79,19 @@ settled_once ch act again idle = settled_stays (after_step ch (settled_of ch act
 
 -- ---- a look disturbs nothing
 pub look_left : (ch : Channel) → Settled ch → touched_by ch touch.RtsLook ≡ ch
-unfolding step_at act_of look_act act_with setting_by no_setting receive_change transmit_change moved_by
+unfolding step_at act_of look_act act_with setting_by receive_change transmit_change moved_by
 look_left ch settled =
     settled_stays ch (look_act ch) settled
-    (record { none_set = closed_sets_none ch.settings no_setting refl; lines_left = refl; rx_left = refl; tx_left = refl })
+    (record { none_set = refl; lines_left = refl; rx_left = refl; tx_left = refl })
 
 -- ---- nor does a closed address: it "reads 0, writes nothing"
 pub closed_read_left : (ch : Channel) (address : ℕ) → register_at ch.settings address ≡ register.Closed → Settled ch
     → touched_by ch (touch.Read address) ≡ ch
-unfolding step_at act_of read_act act_with setting_by no_setting receive_change transmit_change moved_by line_read modem_read shown_at flags_cleared with_line with_modem with_flags
+unfolding step_at act_of read_act act_with setting_by receive_change transmit_change moved_by line_read modem_read shown_at flags_cleared with_line with_modem with_flags
 closed_read_left ch address closed settled =
     settled_stays ch (read_act ch address) settled
     (record {
-      none_set = closed_sets_none ch.settings no_setting refl;
+      none_set = refl;
       lines_left = rw (closed, and_true ch.state.line.overrun);
       rx_left = rw closed;
       tx_left = refl;
@@ -104,7 +103,7 @@ unfolding step_at act_of write_act act_with setting_by setting_of receive_change
 closed_write_left ch address byte closed settled =
     settled_stays ch (write_act ch address byte) settled
     (record {
-      none_set = closed_sets_none ch.settings (setting_by ch.settings (touch.Write address byte)) (rw closed);
+      none_set = rw closed;
       lines_left = rw closed;
       rx_left = rw closed;
       tx_left = rw closed;

@@ -1,7 +1,7 @@
 -- Definitions: what an event that names a channel does, by the channel's stored registers alone: the register that it sets,
 -- what happens to the queues, and whether the device is reset. The stored registers are a machine of their own: no queue,
 -- flag or count is in it.
-use Rattle.std.specs.Prelude.{ℕ, Bool, false}
+use Rattle.std.specs.Prelude.{ℕ, Bool, false, Option, None}
 use Rattle.bits.specs.Choice.{pick}
 use Rattle.queue.specs.declared.Character.{Character}
 use Rattle.queue.specs.Change.{Change, Add, Take, Clear, Stay}
@@ -12,22 +12,22 @@ use Rattle.registers.specs.declared.register.Register.TheVariants as register
 use Rattle.registers.specs.declared.settings.Setting.{Setting}
 use Rattle.registers.specs.declared.settings.Settings.{Settings}
 use Rattle.registers.specs.Windows.{same, register_at}
-use Rattle.registers.specs.Writes.{no_setting, setting_of, with_setting, resets_device}
+use Rattle.registers.specs.Writes.{setting_of, with_any, resets_device}
 use Rattle.levels.specs.Queues.{clears}
 use Rattle.receiver.specs.Arrivals.{arrived_byte, does_pass, heard_of}
 
--- the stored register that an event sets
-unfoldable pub setting_by : Settings → Touch → Setting
+-- the stored register that an event sets, if it sets one
+unfoldable pub setting_by : Settings → Touch → Option Setting
 setting_by s (touch.Write address byte) = setting_of s (register_at s address) byte
-setting_by s (touch.Read address) = no_setting
+setting_by s (touch.Read address) = None
 setting_by s (touch.Arrival byte mark) = (heard_of s byte mark).setting
-setting_by s touch.Slot = no_setting
-setting_by s (touch.Pins value) = no_setting
-setting_by s touch.Quiet = no_setting
-setting_by s touch.RtsLook = no_setting
+setting_by s touch.Slot = None
+setting_by s (touch.Pins value) = None
+setting_by s touch.Quiet = None
+setting_by s touch.RtsLook = None
 
 unfoldable pub settings_after : Settings → Touch → Settings
-settings_after s t = with_setting s (setting_by s t)
+settings_after s t = with_any s (setting_by s t)
 
 -- a character as it would be queued
 abbrev pub arrived_character : Settings → ℕ → ℕ → Character

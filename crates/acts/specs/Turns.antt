@@ -14,9 +14,9 @@ use Rattle.registers.specs.declared.register.Register.{Register}
 use Rattle.registers.specs.declared.register.Register.TheVariants as register
 use Rattle.registers.specs.declared.settings.Settings.{Settings}
 use Rattle.registers.specs.Windows.{same, register_at}
-use Rattle.registers.specs.Writes.{taken_by, no_setting, setting_of, if_set, with_setting}
+use Rattle.registers.specs.Writes.{taken_by, setting_of, if_set, with_setting, with_any}
 use Rattle.registers.specs.Pairs.{chooses_pair, pair_at}
-use Rattle.registers.specs.Laws.{same_is}
+use Rattle.registers.specs.Laws.{same_is, efr_unset}
 use Rattle.receiver.specs.Arrivals.{heard_of}
 use Rattle.receiver.specs.Laws.{heard_keeps_efr}
 use Rattle.lines.specs.Rts.{latch_driven}
@@ -70,19 +70,19 @@ efr_by s touch.Quiet = s.efr
 efr_by s touch.RtsLook = s.efr
 
 efr_set : (s : Settings) (written : Register) (byte : ℕ)
-    → (with_setting s (setting_of s written byte)).efr ≡ pick (same written register.Efr) byte s.efr
-unfolding with_setting if_set setting_of taken_by no_setting
+    → (with_any s (setting_of s written byte)).efr ≡ pick (same written register.Efr) byte s.efr
+unfolding with_setting if_set setting_of taken_by
 efr_set s written byte = go (same written register.Efr) refl
   where
-    go : (efr : Bool) → same written register.Efr ≡ efr → (with_setting s (setting_of s written byte)).efr ≡ pick efr byte s.efr
+    go : (efr : Bool) → same written register.Efr ≡ efr → (with_any s (setting_of s written byte)).efr ≡ pick efr byte s.efr
     go true h = rw (same_is written register.Efr h)
-    go false h = pick_by (λ set. if_set set register.Efr s.efr ≡ s.efr) (same written register.RhrThr) (λ _. refl) (λ _. rw h)
+    go false h = pick_by (λ setting. (with_any s setting).efr ≡ s.efr) (same written register.RhrThr || same written register.Closed) (λ _. refl) (λ _. rw h)
 
 efr_after : (s : Settings) (t : Touch) → (settings_after s t).efr ≡ efr_by s t
-unfolding settings_after setting_by with_setting if_set no_setting
+unfolding settings_after setting_by
 efr_after s (touch.Write address byte) = efr_set s (register_at s address) byte
 efr_after s (touch.Read address) = refl
-efr_after s (touch.Arrival byte mark) = rw (heard_keeps_efr s byte mark)
+efr_after s (touch.Arrival byte mark) = efr_unset s (heard_of s byte mark).setting (heard_keeps_efr s byte mark)
 efr_after s touch.Slot = refl
 efr_after s (touch.Pins value) = refl
 efr_after s touch.Quiet = refl

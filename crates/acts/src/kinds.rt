@@ -1,4 +1,6 @@
 // What an event does at the channel that it names, kind by kind, before the channel settles.
+#![tactic(auto, using(queue::specs::Laws::moved_pick, levels::specs::Laws::room_in, registers::specs::Laws::equal_is_same, bits::specs::Conditions::from_one_if), unfolding(crate::specs::Acts::act_of, crate::specs::Acts::act_with, crate::specs::Acts::lines_act, crate::specs::Acts::write_act, crate::specs::Acts::read_act, crate::specs::Acts::arrival_act, crate::specs::Acts::slot_act, crate::specs::Acts::pins_act, crate::specs::Acts::quiet_act, crate::specs::Acts::look_act, crate::specs::Touches::setting_by, crate::specs::Touches::receive_change, crate::specs::Touches::transmit_change, crate::specs::Touches::sent_by, crate::specs::Touches::resets_by, queue::specs::Queue::moved_by))]
+
 ghost use Rattle.std.specs.Prelude.{◌≡◌, ◌<◌};
 ghost use Rattle.queue.specs.Queue.{moved_by};
 ghost use Rattle.event.specs.Events.{TouchIn};
@@ -7,42 +9,42 @@ ghost use Rattle.channel.specs.Channel.{WellFormed};
 ghost use Rattle.acts.specs.Touches.{sent_by};
 ghost use Rattle.acts.specs.Acts.{lines_act, write_act, read_act, arrival_act, slot_act, pins_act, quiet_act, look_act, act_of};
 
-use bits::{chosen, one_if};
+use bits::chosen;
 use channel::{Act, Channel, State};
 use event::Touch;
 use levels::{clears, loads, room};
 use lines::{Shift, TRANSMIT_ROOM};
 use queue::{Character, Moved};
-use receiver::{arrived_byte, fate, heard_by};
-use registers::{Register, Setting, resets_device};
+use receiver::{Arrival, fate};
+use registers::{Register, Write};
 
 // No register is set and the queues stay.
 fn lines_only(channel: Channel, state: State, reply: u16) -> Act
     ensures { result ≡ lines_act channel state reply }
 {
     Act {
-        setting: Setting::none(),
-        state: state,
+        setting: None,
+        state,
         rx: channel.rx.stays(),
         tx: channel.tx.stays(),
-        reply: reply,
+        reply,
         resets: false,
     }
 }
 
 // What a write does to the transmit queue.
-fn sends(channel: Channel, register: Register, byte: u8) -> Moved
+fn sends(channel: Channel, write: Write) -> Moved
     requires { WellFormed channel }
-    ensures { result ≡ moved_by channel.tx (sent_by channel.settings register byte) transmit_room }
+    ensures { result ≡ moved_by channel.tx (sent_by channel.settings write.register write.byte) transmit_room }
 {
-    if register.is(Register::RhrThr) {
+    if write.register == Register::RhrThr {
         let character = Character {
-            byte: byte,
+            byte: write.byte,
             mark: 0,
         };
         return channel.tx.adds(true, character, TRANSMIT_ROOM);
     }
-    let clears = clears(channel.settings, register, byte, 2);
+    let clears = clears(channel.settings, write, 2);
     channel.tx.clears(clears)
 }
 
@@ -51,15 +53,16 @@ fn write(channel: Channel, address: u8, byte: u8) -> Act
     ensures { result ≡ write_act channel address byte }
 {
     let register = channel.settings.register(address);
-    let clears = clears(channel.settings, register, byte, 1);
+    let write = Write { register, byte };
+    let clears = clears(channel.settings, write, 1);
     let lined = channel.state.with_line(channel.state.line.cleared(clears));
     Act {
-        setting: channel.settings.written(register, byte),
-        state: lined.with_flow(channel.state.flow.written(register, byte)),
+        setting: channel.settings.written(write),
+        state: lined.with_flow(channel.state.flow.written(write)),
         rx: channel.rx.clears(clears),
-        tx: sends(channel, register, byte),
+        tx: sends(channel, write),
         reply: 0,
-        resets: resets_device(register, byte),
+        resets: write.resets_device(),
     }
 }
 
@@ -72,36 +75,34 @@ fn read(channel: Channel, address: u8) -> Act
     let lined = channel.state.with_line(channel.state.line.read(register));
     let seen = lined.with_modem(channel.state.modem.read(register));
     Act {
-        setting: Setting::none(),
+        setting: None,
         state: seen.with_flags(channel.state.flags.cleared(shown)),
-        rx: channel.rx.takes(register.is(Register::RhrThr)),
+        rx: channel.rx.takes(register == Register::RhrThr),
         tx: channel.tx.stays(),
-        reply: channel.gives(register, shown) as u16,
+        reply: u16::from(channel.gives(register, shown)),
         resets: false,
     }
 }
 
 // A character that arrives with its mark.
-fn arrival(channel: Channel, byte: u8, mark: u8) -> Act
+fn arrival(channel: Channel, arrival: Arrival) -> Act
     requires { WellFormed channel }
-    ensures { result ≡ arrival_act channel byte mark }
+    ensures { result ≡ arrival_act channel arrival.byte arrival.mark }
 {
-    let heard = heard_by(channel.settings, byte, mark);
+    let heard = arrival.heard_by(channel.settings);
     let gate = heard.gate;
-    let setting = heard.setting;
-    let passes = gate.passes();
     let character = Character {
-        byte: arrived_byte(channel.settings, byte, mark),
-        mark: mark,
+        byte: arrival.arrived_byte(channel.settings),
+        mark: arrival.mark,
     };
+    let passes = gate.passes();
     let moved = channel.rx.adds(passes, character, room(channel.settings));
     let line = channel.state.line.arrived(moved.kept);
     let lined = channel.state.with_line(line);
     let flagged = lined.with_flags(channel.state.flags.arrived(heard.special));
-    let flow = channel.state.flow.heard(channel.settings, gate);
     Act {
-        setting: setting,
-        state: flagged.with_flow(flow),
+        setting: heard.setting,
+        state: flagged.with_flow(channel.state.flow.heard(channel.settings, gate)),
         rx: moved,
         tx: channel.tx.stays(),
         reply: fate(gate, moved.kept),
@@ -124,7 +125,7 @@ fn slot(channel: Channel) -> Act
     );
     let shifted = channel.state.with_shift(shift);
     Act {
-        setting: Setting::none(),
+        setting: None,
         state: shifted.with_flow(flow.sent(sends)),
         rx: channel.rx.stays(),
         tx: channel.tx.takes(loads),
@@ -159,7 +160,7 @@ fn rts_look(channel: Channel) -> Act
     requires { WellFormed channel }
     ensures { result ≡ look_act channel }
 {
-    lines_only(channel, channel.state, one_if(channel.rts()) as u16)
+    lines_only(channel, channel.state, u16::from(channel.rts()))
 }
 
 // An event whose values are in range.
@@ -170,7 +171,7 @@ pub fn act(channel: Channel, touch: Touch) -> Act
     match touch {
         Touch::Write { address, byte } => write(channel, address, byte),
         Touch::Read { address } => read(channel, address),
-        Touch::Arrival { byte, mark } => arrival(channel, byte, mark),
+        Touch::Arrival { byte, mark } => arrival(channel, Arrival { byte, mark }),
         Touch::Slot => slot(channel),
         Touch::Pins { value } => pins(channel, value),
         Touch::Quiet => quiet(channel),

@@ -14,6 +14,7 @@ use event::Touch;
 pub use kinds::act;
 
 // What an event that names the channel comes to, where its values are in range.
+#[tactic(auto, unfolding(crate::specs::Step::step_at))]
 pub fn step(channel: Channel, touch: Touch) -> Step
     requires { WellFormed channel × TouchIn touch }
     ensures { result ≡ step_at channel touch }

@@ -22,7 +22,7 @@ fn read_from(stdin: &mut Stdin, buffer: &mut [u8], at: usize) -> io::Result<usiz
 }
 
 // Reads until the buffer is full or the input ends, each time from where the last read ended, so that none is overwritten.
-// What came before a read that fails is no whole input, and is not run.
+// What came before a read that fails is no whole input, and is not run. The count goes on by what came, so it is no index of a `for`.
 fn read_input(stdin: &mut Stdin, buffer: &mut [u8]) -> io::Result<usize>
     ensures { Within 0 (length buffer.old) result }
 {

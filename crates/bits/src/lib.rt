@@ -4,27 +4,13 @@
 
 ghost use Rattle.std.specs.Prelude.{◌≡◌, ◌-◌, ◌^◌, ◌<◌};
 ghost use Rattle.bits.specs.Choice.{pick};
-ghost use Rattle.bits.specs.Bits.{one_if, differs, bit_at, part_at, joined_at, replaced_at, cut_to};
+ghost use Rattle.bits.specs.Bits.{bit_at, part_at, joined_at, replaced_at, cut_to};
 
 // The first of two bytes where a condition holds, else the second.
 pub fn chosen(condition: bool, x: u8, y: u8) -> u8
     ensures { result ≡ pick condition x y }
 {
     if condition { x } else { y }
-}
-
-// 1 for a condition that holds, else 0.
-pub fn one_if(condition: bool) -> u8
-    ensures { result ≡ one_if condition }
-{
-    if condition { 1 } else { 0 }
-}
-
-// Whether one of two conditions holds and the other does not.
-pub fn differ(one: bool, other: bool) -> bool
-    ensures { result ≡ differs one other }
-{
-    (one & !other) | (!one & other)
 }
 
 // As many ones as a width, from bit 0 on.
@@ -36,6 +22,7 @@ fn ones(width: u8) -> u8
 }
 
 // The part of a byte that begins at a place and is so many bits wide, moved down to bit 0.
+#[tactic(auto, using(crate::specs::Laws::masked_part, crate::specs::Laws::wide_part, crate::specs::Laws::no_part_past))]
 pub fn part(byte: u8, place: u8, width: u8) -> u8
     ensures { result ≡ part_at byte place width }
 {
@@ -49,6 +36,7 @@ pub fn part(byte: u8, place: u8, width: u8) -> u8
 }
 
 // Whether the bit at a place is set.
+#[tactic(auto, unfolding(crate::specs::Bits::bit_at))]
 pub fn bit(byte: u8, place: u8) -> bool
     ensures { result ≡ bit_at byte place }
 {
@@ -56,6 +44,7 @@ pub fn bit(byte: u8, place: u8) -> bool
 }
 
 // A byte put together: the bits of one below a place, and another from that place on.
+#[tactic(auto, using(crate::specs::Laws::or_joined, crate::specs::Laws::joined_past))]
 pub fn joined(low: u8, place: u8, high: u8) -> u8
     ensures { result ≡ joined_at low place high }
 {
@@ -66,14 +55,12 @@ pub fn joined(low: u8, place: u8, high: u8) -> u8
 }
 
 // A byte that keeps its bits but for a part, which it takes from another.
+#[tactic(auto, using(crate::specs::Laws::replaced_joined, crate::specs::Laws::replaced_to_the_end))]
 pub fn replaced(old: u8, new: u8, place: u8, width: u8) -> u8
     ensures { result ≡ replaced_at old new place width }
 {
     let taken = joined(old, place, part(new, place, width));
-    if 8 <= place {
-        return taken;
-    }
-    if 8 <= width {
+    if 8 <= place || 8 <= width {
         return taken;
     }
     let above = place + width;
@@ -81,6 +68,7 @@ pub fn replaced(old: u8, new: u8, place: u8, width: u8) -> u8
 }
 
 // A character cut to the word length, 5 + LCR 1:0 bits.
+#[tactic(auto, using(crate::specs::Laws::part_in, crate::specs::Laws::cut_part))]
 pub fn cut(character: u8, lcr: u8) -> u8
     ensures { result ≡ cut_to character lcr }
 {

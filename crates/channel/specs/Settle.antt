@@ -1,12 +1,10 @@
 -- Definitions: ".. the latch, the RTS flag, the THR flag", the second latch behind the first: what an act comes to with what
 -- settles after it, and the channel afterwards.
-use Rattle.std.specs.Prelude.{◌≤◌, Bool, not}
+use Rattle.std.specs.Prelude.{◌≤◌, Bool}
 use Rattle.queue.specs.Queue.{MovedIn, after_of}
 use Rattle.levels.specs.declared.trigger.Spaces.{Spaces}
-use Rattle.registers.specs.declared.register.Register.TheVariants as register
 use Rattle.registers.specs.declared.settings.Settings.{Settings}
-use Rattle.registers.specs.Windows.{same}
-use Rattle.registers.specs.Writes.{with_setting}
+use Rattle.registers.specs.Writes.{with_setting, with_any}
 use Rattle.registers.specs.Bounds.{SettingIn, SettingsIn}
 use Rattle.registers.specs.Pairs.{pair_at}
 use Rattle.lines.specs.declared.transmit.Shift.{Shift}
@@ -46,7 +44,7 @@ moment_at ch = moment_of ch.settings ch.state.latch ch.state.shift (free_at ch)
 
 -- the stored registers and the latch after an act
 abbrev pub settings_by : Channel → Act → Settings
-settings_by ch act = with_setting ch.settings act.setting
+settings_by ch act = with_any ch.settings act.setting
 
 abbrev pub latch_by : Channel → Act → Bool
 latch_by ch act = latch_after (settings_by ch act) (record { 0 = act.rx.count }) act.state.latch
@@ -59,7 +57,7 @@ flow_by ch act = flow_settled act.state.flow (settings_by ch act) (pair_at (sett
 unfoldable pub settled_of : Channel → Act → Step
 settled_of ch act =
     record {
-      sets = not (same act.setting.register register.Closed);
+      setting = act.setting;
       settings = settings_by ch act;
       state =
           with_flow

@@ -10,6 +10,7 @@ use queue::Queue;
 use receiver::Status;
 use registers::{Register, Settings};
 
+// That it is well formed is a clause, as of a queue, and for the same reason.
 #[repr(C)]
 #[derive(Clone, Copy)]
 pub struct Channel {
@@ -21,6 +22,7 @@ pub struct Channel {
 
 impl Channel {
     // The highest interrupt pending.
+    #[tactic(auto, unfolding(crate::specs::Channel::pending_at))]
     pub fn pending(self) -> Interrupt
         requires { WellFormed self }
         ensures { result ≡ pending_at self }
@@ -36,46 +38,48 @@ impl Channel {
         )
     }
 
-    // Whether RTS is asserted.
+    // Whether RTS is asserted. The copy of the stored registers stands here for speed.
+    #[tactic(auto, unfolding(crate::specs::Channel::rts_asserted))]
     pub fn rts(self) -> bool
         requires { WellFormed self }
         ensures { result ≡ rts_asserted self }
     {
         let settings = self.settings;
-        let shift = self.state.shift;
-        let free = spaces(self.tx.count);
-        rts_asserted(settings, self.state.latch, shift.busy(free))
+        let busy = self.state.shift.busy(spaces(self.tx.count));
+        rts_asserted(settings, self.state.latch, busy)
     }
 
     // What LSR is made of.
+    #[tactic(auto, unfolding(crate::specs::Channel::status_of))]
     pub fn status(self) -> Status
         requires { WellFormed self }
         ensures { result ≡ status_of self }
     {
         let sent = all_free(spaces(self.tx.count));
-        let oldest = self.rx.oldest();
         Status {
             ready: self.rx.count != 0,
             overrun: self.state.line.overrun,
-            mark: oldest.mark,
-            sent: sent,
+            mark: self.rx.oldest().mark,
+            sent,
             idle: sent & !self.state.shift.full & !self.state.flow.waits,
             error: self.rx.any_mark(),
         }
     }
 
     // The interrupt that a read shows: one of IIR alone shows any.
+    #[tactic(auto, using(registers::specs::Laws::equal_is_same), unfolding(crate::specs::Channel::shown_at))]
     pub fn shown(self, register: Register) -> Interrupt
         requires { WellFormed self }
         ensures { result ≡ shown_at self register }
     {
-        if register.is(Register::IirFcr) {
+        if register == Register::IirFcr {
             return self.pending();
         }
         Interrupt::Nothing
     }
 
     // What a read of a register gives.
+    #[tactic(auto, using(crate::specs::Laws::mark_shown_in), unfolding(crate::specs::Channel::read_of))]
     pub fn gives(self, register: Register, shown: Interrupt) -> u8
         requires { WellFormed self }
         ensures { result ≡ read_of self register shown }

@@ -9,12 +9,12 @@ use interrupts::Moment;
 use levels::{Characters, Spaces};
 use lines::{Shift, latch_after, rts_asserted, spaces, thr_condition};
 use queue::Moved;
-use registers::{Register, Setting, Settings};
+use registers::{Setting, Settings};
 
-// The register that is set, the lines and what becomes of each queue; the reply, and whether the device is reset.
+// The register that is set, if one is, the lines and what becomes of each queue; the reply, and whether the device is reset.
 #[derive(Clone, Copy)]
 pub struct Act {
-    pub setting: Setting,
+    pub setting: Option<Setting>,
     pub state: State,
     pub rx: Moved,
     pub tx: Moved,
@@ -22,11 +22,11 @@ pub struct Act {
     pub resets: bool,
 }
 
-// All that a channel is after an event but for the places of its queues, and whether a stored register was set; the reply,
-// and whether the device is reset.
+// All that a channel is after an event but for the places of its queues, and which stored register was set, if one was; the reply,
+// and whether the device is reset. The registers after it stand here either way.
 #[derive(Clone, Copy)]
 pub struct Step {
-    pub sets: bool,
+    pub setting: Option<Setting>,
     pub settings: Settings,
     pub state: State,
     pub rx: Moved,
@@ -35,6 +35,7 @@ pub struct Step {
     pub resets: bool,
 }
 
+#[tactic(auto, unfolding(crate::specs::Settle::moment_of))]
 fn moment(settings: Settings, latch: bool, shift: Shift, free: Spaces) -> Moment
     ensures { result ≡ moment_of settings latch shift free }
 {
@@ -46,6 +47,7 @@ fn moment(settings: Settings, latch: bool, shift: Shift, free: Spaces) -> Moment
 
 impl Channel {
     // RTS and the THR condition.
+    #[tactic(auto, unfolding(crate::specs::Settle::moment_at))]
     fn moment(self) -> Moment
         requires { WellFormed self }
         ensures { result ≡ moment_at self }
@@ -59,43 +61,42 @@ impl Channel {
     }
 
     // What an act comes to with what is settled after it.
+    #[tactic(auto, unfolding(crate::specs::Settle::settled_of))]
     pub fn settled(self, act: Act) -> Step
         requires { WellFormed self × ActIn act }
         ensures { result ≡ settled_of self act }
     {
-        let setting = act.setting;
-        let register = setting.register;
-        let settings = self.settings.with(setting);
-        let rx = act.rx;
-        let tx = act.tx;
-        let received = Characters(rx.count);
+        let settings = match act.setting {
+            Some(setting) => self.settings.with(setting),
+            None => self.settings,
+        };
+        let received = Characters(act.rx.count);
         let latch = latch_after(settings, received, act.state.latch);
         let flow = act.state.flow;
-        let paused = flow.settled(self.settings, setting, settings, received);
-        let before = self.moment();
-        let now = moment(settings, latch, act.state.shift, spaces(tx.count));
-        let flagged = act.state.with_flags(act.state.flags.settled(before, now));
+        let paused = flow.settled(self.settings, act.setting, settings, received);
+        let now = moment(settings, latch, act.state.shift, spaces(act.tx.count));
+        let flags = act.state.flags.settled(self.moment(), now);
+        let flagged = act.state.with_flags(flags);
         Step {
-            sets: !register.is(Register::Closed),
-            settings: settings,
+            setting: act.setting,
+            settings,
             state: flagged.with_latch(latch).with_flow(paused),
-            rx: rx,
-            tx: tx,
+            rx: act.rx,
+            tx: act.tx,
             reply: act.reply,
             resets: act.resets,
         }
     }
 
     // The channel by value after a step.
+    #[tactic(auto, unfolding(crate::specs::Settle::after_step))]
     pub fn after(self, step: Step) -> Channel
         requires { StepIn step }
         ensures { result ≡ after_step self step }
     {
-        let settings = step.settings;
-        let state = step.state;
         Channel {
-            settings: settings,
-            state: state,
+            settings: step.settings,
+            state: step.state,
             rx: self.rx.after(step.rx),
             tx: self.tx.after(step.tx),
         }

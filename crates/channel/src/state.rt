@@ -19,111 +19,45 @@ pub struct State {
 }
 
 impl State {
+    #[tactic(auto, unfolding(crate::specs::State::with_line))]
     pub fn with_line(self, line: Line) -> State
         ensures { result ≡ with_line self line }
     {
-        let shift = self.shift;
-        let modem = self.modem;
-        let flags = self.flags;
-        let latch = self.latch;
-        let flow = self.flow;
-        State {
-            line: line,
-            shift: shift,
-            modem: modem,
-            flags: flags,
-            latch: latch,
-            flow: flow,
-        }
+        State { line, ..self }
     }
 
+    #[tactic(auto, unfolding(crate::specs::State::with_shift))]
     pub fn with_shift(self, shift: Shift) -> State
         ensures { result ≡ with_shift self shift }
     {
-        let line = self.line;
-        let modem = self.modem;
-        let flags = self.flags;
-        let latch = self.latch;
-        let flow = self.flow;
-        State {
-            line: line,
-            shift: shift,
-            modem: modem,
-            flags: flags,
-            latch: latch,
-            flow: flow,
-        }
+        State { shift, ..self }
     }
 
+    #[tactic(auto, unfolding(crate::specs::State::with_modem))]
     pub fn with_modem(self, modem: Modem) -> State
         ensures { result ≡ with_modem self modem }
     {
-        let line = self.line;
-        let shift = self.shift;
-        let flags = self.flags;
-        let latch = self.latch;
-        let flow = self.flow;
-        State {
-            line: line,
-            shift: shift,
-            modem: modem,
-            flags: flags,
-            latch: latch,
-            flow: flow,
-        }
+        State { modem, ..self }
     }
 
+    #[tactic(auto, unfolding(crate::specs::State::with_flags))]
     pub fn with_flags(self, flags: Flags) -> State
         ensures { result ≡ with_flags self flags }
     {
-        let line = self.line;
-        let shift = self.shift;
-        let modem = self.modem;
-        let latch = self.latch;
-        let flow = self.flow;
-        State {
-            line: line,
-            shift: shift,
-            modem: modem,
-            flags: flags,
-            latch: latch,
-            flow: flow,
-        }
+        State { flags, ..self }
     }
 
+    #[tactic(auto, unfolding(crate::specs::State::with_latch))]
     pub fn with_latch(self, latch: bool) -> State
         ensures { result ≡ with_latch self latch }
     {
-        let line = self.line;
-        let shift = self.shift;
-        let modem = self.modem;
-        let flags = self.flags;
-        let flow = self.flow;
-        State {
-            line: line,
-            shift: shift,
-            modem: modem,
-            flags: flags,
-            latch: latch,
-            flow: flow,
-        }
+        State { latch, ..self }
     }
 
+    #[tactic(auto, unfolding(crate::specs::State::with_flow))]
     pub fn with_flow(self, flow: Flow) -> State
         ensures { result ≡ with_flow self flow }
     {
-        let line = self.line;
-        let shift = self.shift;
-        let modem = self.modem;
-        let flags = self.flags;
-        let latch = self.latch;
-        State {
-            line: line,
-            shift: shift,
-            modem: modem,
-            flags: flags,
-            latch: latch,
-            flow: flow,
-        }
+        State { flow, ..self }
     }
 }

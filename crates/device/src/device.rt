@@ -33,7 +33,7 @@ pub struct Outcome {
     pub answer: Answer,
 }
 
-// An answer as one number: the reply, or the refusal above all replies.
+// An answer as one number: the reply, or the refusal above all replies. A function, since no `From` can be written for a Result.
 #[tactic(auto, unfolding(crate::specs::Device::answer_number))]
 pub fn answer_number(answer: Answer) -> u32
     ensures { result ≡ answer_number answer }

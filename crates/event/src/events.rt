@@ -6,7 +6,8 @@ ghost use Rattle.event.specs.Events.{event_at, event_of, judged_of, touch_judged
 use crate::kind::Kind;
 use crate::refusal::Refusal;
 
-// What happens at the channel that an event names.
+// What happens at the channel that an event names, in plain bytes: `Device::step` judges every event, so that one is in range is a
+// clause where it was judged before (`TouchIn`), and no type.
 #[derive(Clone, Copy)]
 pub enum Touch {
     Write { address: u8, byte: u8 },
@@ -81,7 +82,7 @@ fn at(channel: u64, touch: Result<Touch, Refusal>) -> Result<Event, Refusal>
     })
 }
 
-// The event of a kind and its operands; those that the kind lacks are not looked at.
+// The event of a kind and its operands, four numbers as C passes them; those that the kind lacks are not looked at.
 #[tactic(auto, unfolding(crate::specs::Events::event_of, crate::specs::Events::touch_of))]
 pub fn event_of(kind: u64, x: u64, y: u64, z: u64) -> Result<Event, Refusal>
     ensures { result ≡ event_of kind x y z }

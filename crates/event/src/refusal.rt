@@ -27,7 +27,8 @@ impl Refusal {
     }
 }
 
-// The number of a refusal where an answer is one number, above all replies.
+// The number of a refusal where an answer is one number, above all replies. It takes the number, since a `Refusal` would ask more
+// of its caller.
 pub fn refused_answer(number: u8) -> u32
     ensures { result ≡ refused_answer number }
 {

@@ -3,8 +3,6 @@
 use contract.Lifetimes.{Lfts}
 use mathlib.Core.Path.{◌≡◌, sym, ◌∙◌}
 use Rattle.bits.proofs.chosen.Reads as bits_chosen
-use Rattle.bits.proofs.one_if.Reads as bits_one_if
-use Rattle.bits.proofs.differ.Reads as bits_differ
 use Rattle.bits.proofs.part.Reads as bits_part
 use Rattle.bits.proofs.bit.Reads as bits_bit
 use Rattle.bits.proofs.joined.Reads as bits_joined
@@ -31,8 +29,6 @@ use Rattle.file.proofs.read_at.Reads as file_read_at
 use Rattle.writer.proofs.write.Reads as writer_write
 use Rattle.writer.proofs.put_event.Reads as writer_put_event
 use Rattle.sc16is752_file.proofs.sc16is752_event_bytes.Reads as sc16is752_event_bytes
-use Rattle.levels.proofs.trigger.Characters.reaches.Reads as levels_characters_reaches
-use Rattle.levels.proofs.trigger.Spaces.reaches.Reads as levels_spaces_reaches
 use Rattle.levels.proofs.receive_level.Reads as levels_receive_level
 use Rattle.levels.proofs.transmit_level.Reads as levels_transmit_level
 use Rattle.levels.proofs.halt_level.Reads as levels_halt_level
@@ -41,8 +37,6 @@ use Rattle.levels.proofs.room.Reads as levels_room
 use Rattle.levels.proofs.clears.Reads as levels_clears
 use Rattle.levels.proofs.transmits.Reads as levels_transmits
 use Rattle.levels.proofs.loads.Reads as levels_loads
-use Rattle.registers.proofs.register.Register.is.Reads as registers_register_is
-use Rattle.registers.proofs.settings.Setting.none.Reads as registers_setting_none
 use Rattle.registers.proofs.settings.Setting.held.Reads as registers_setting_held
 use Rattle.registers.proofs.settings.Settings.register.Reads as registers_settings_register
 use Rattle.registers.proofs.settings.Settings.written.Reads as registers_settings_written
@@ -50,10 +44,10 @@ use Rattle.registers.proofs.settings.Settings.with.Reads as registers_settings_w
 use Rattle.registers.proofs.settings.Settings.pair.Reads as registers_settings_pair
 use Rattle.registers.proofs.settings.Settings.pair_with.Reads as registers_settings_pair_with
 use Rattle.registers.proofs.chooses_pair.Reads as registers_chooses_pair
-use Rattle.registers.proofs.resets_device.Reads as registers_resets_device
+use Rattle.registers.proofs.settings.Write.resets_device.Reads as registers_resets_device
 use Rattle.receiver.proofs.arrival.Gate.passes.Reads as receiver_gate_passes
-use Rattle.receiver.proofs.arrived_byte.Reads as receiver_arrived_byte
-use Rattle.receiver.proofs.heard_by.Reads as receiver_heard_by
+use Rattle.receiver.proofs.arrival.Arrival.arrived_byte.Reads as receiver_arrived_byte
+use Rattle.receiver.proofs.arrival.Arrival.heard_by.Reads as receiver_heard_by
 use Rattle.receiver.proofs.line.Line.arrived.Reads as receiver_line_arrived
 use Rattle.receiver.proofs.line.Line.read.Reads as receiver_line_read
 use Rattle.receiver.proofs.line.Line.cleared.Reads as receiver_line_cleared
@@ -123,12 +117,6 @@ by_equation equal a r r' s s' p q = equal a r s p ∙ sym (equal a r' s' q)
 pub bits_chosen_determined : Determined (bits_chosen.Post tt)
 bits_chosen_determined = by_equation (λ a r s h. h)
 
-pub bits_one_if_determined : Determined (bits_one_if.Post tt)
-bits_one_if_determined = by_equation (λ a r s h. h)
-
-pub bits_differ_determined : Determined (bits_differ.Post tt)
-bits_differ_determined = by_equation (λ a r s h. h)
-
 pub bits_part_determined : Determined (bits_part.Post tt)
 bits_part_determined = by_equation (λ a r s h. h)
 
@@ -196,12 +184,6 @@ file_read_at_determined κs = by_equation (λ a r s h. h)
 pub writer_write_determined : Determined (writer_write.Post tt)
 writer_write_determined = by_equation (λ a r s h. h)
 
-pub levels_characters_reaches_determined : Determined (levels_characters_reaches.Post tt)
-levels_characters_reaches_determined = by_equation (λ a r s h. h)
-
-pub levels_spaces_reaches_determined : Determined (levels_spaces_reaches.Post tt)
-levels_spaces_reaches_determined = by_equation (λ a r s h. h)
-
 pub levels_receive_level_determined : Determined (levels_receive_level.Post tt)
 levels_receive_level_determined = by_equation (λ a r s h. h)
 
@@ -225,12 +207,6 @@ levels_transmits_determined = by_equation (λ a r s h. h)
 
 pub levels_loads_determined : Determined (levels_loads.Post tt)
 levels_loads_determined = by_equation (λ a r s h. h)
-
-pub registers_register_is_determined : Determined (registers_register_is.Post tt)
-registers_register_is_determined = by_equation (λ a r s h. h)
-
-pub registers_setting_none_determined : Determined (registers_setting_none.Post tt)
-registers_setting_none_determined = by_equation (λ a r s h. h)
 
 pub registers_setting_held_determined : Determined (registers_setting_held.Post tt)
 registers_setting_held_determined = by_equation (λ a r s h. h)
@@ -442,7 +418,7 @@ DeterminedWith {A} {R} {S} part allowed = (a : A) (r r' : R) (s s' : S) → allo
 
 -- at any lifetimes of the buffer, and of the word or the input beside it: the result, and what the buffer holds
 pub text_put_line_determined : (κs : Lfts 2) → DeterminedWith (λ s. s.0.now) (text_put_line.Post κs)
-text_put_line_determined κs a r r' s s' p q = (p.0 ∙ sym q.0, p.1 ∙ sym q.1)
+text_put_line_determined κs a r r' s s' p q = (p.value ∙ sym q.value, p.out_after ∙ sym q.out_after)
 
 pub writer_put_event_determined : (κs : Lfts 1) → DeterminedWith (λ s. s.0.now) (writer_put_event.Post κs)
 writer_put_event_determined κs a r r' s s' p q = (p.0 ∙ sym q.0, p.1 ∙ sym q.1)

@@ -1,7 +1,7 @@
 -- Laws: the rules that the judge shares with the device, written out to be held against document 01: what clears the receive queue,
 -- what is a read of it, what becomes of an arrival, mode by mode, and what is kept.
 use Prim.Native.Nat.{ℕ}
-use Rattle.std.specs.Prelude.{◌≡◌, Bool, not, ◌&&◌, ◌||◌, [], ◌∷◌, ◌++◌, ltb, Ok, Err}
+use Rattle.std.specs.Prelude.{◌≡◌, Bool, not, ◌&&◌, ◌||◌, [], ◌∷◌, ◌++◌, ltb, None, Some, Ok, Err}
 use Rattle.std.proofs.Math.Path.{refl, sym}
 use Rattle.std.proofs.Common.{ap, eqb-true}
 use Rattle.std.proofs.Math.Bool.{true, false}
@@ -17,10 +17,9 @@ use Rattle.registers.specs.declared.register.Register.{Register}
 use Rattle.registers.specs.declared.register.Register.TheVariants as register
 use Rattle.registers.specs.declared.settings.Settings.{Settings}
 use Rattle.registers.specs.Windows.{tcr_open, general_at, enhanced_at, divisor_at, register_at}
-use Rattle.registers.specs.Writes.{no_setting, with_setting, resets_device}
+use Rattle.registers.specs.Writes.{with_setting, with_any, resets_device}
 use Rattle.registers.specs.Pairs.{chooses_pair, chooses_first, pair_at}
 use Rattle.levels.specs.Queues.{room_of, fifo_changes, clears}
-use Rattle.registers.specs.Laws.{closed_sets_none}
 use Rattle.receiver.specs.declared.arrival.Gate.{Gate}
 use Rattle.receiver.specs.declared.arrival.Gate.TheVariants as gate
 use Rattle.receiver.specs.Arrivals.{mode_of, arrived_byte, equals_xoff2, does_pass, unless_off, receiver_set, special_match, taken_as, compared_as, gate_plain, heard_plain, as_data, heard_ninth, heard_address, heard_of}
@@ -144,7 +143,7 @@ module _ (l : Ledger) (byte mark : ℕ) where
   fate_ninth ninth plain = rw (ninth, plain) (go (bit_at mark 0))
     where
       go : (bit : Bool)
-          → fate_number (pick (not bit) (as_data l.own) (record { gate = gate.Passes; special = false; setting = no_setting })).gate (keeps l.tally (room_of l.own))
+          → fate_number (pick (not bit) (as_data l.own) (record { gate = gate.Passes; special = false; setting = None })).gate (keeps l.tally (room_of l.own))
           ≡ pick bit (room_fate l) (data_fate l)
       go true = refl
       go false = unless_off_lem
@@ -159,8 +158,8 @@ module _ (l : Ledger) (byte mark : ℕ) where
       go : (bit equal : Bool)
           → fate_number
           (pick (not bit) (as_data l.own)
-          (pick equal (record { gate = gate.Passes; special = false; setting = receiver_set l.own 0 })
-          (record { gate = gate.Elsewhere; special = false; setting = receiver_set l.own 2 }))).gate
+          (pick equal (record { gate = gate.Passes; special = false; setting = Some (receiver_set l.own 0) })
+          (record { gate = gate.Elsewhere; special = false; setting = Some (receiver_set l.own 2) }))).gate
           (keeps l.tally (room_of l.own))
           ≡ pick bit (pick equal (room_fate l) 3) (data_fate l)
       go true true = refl
@@ -259,14 +258,14 @@ kept_exactly l byte mark = rw (offered_by l byte mark) (go (heard_of l.own byte 
     go gate.Xon kept e = refl
 
 module _ (s : Settings) (byte mark : ℕ) where
-  setting_heard : (heard_of s byte mark).setting ≡ pick (is_address s mark) (efcr_heard s byte mark) no_setting
+  setting_heard : (heard_of s byte mark).setting ≡ pick (is_address s mark) (Some (efcr_heard s byte mark)) None
   unfolding heard_of mode_of heard_plain heard_ninth as_data heard_address equals_xoff2 arrived_byte cut_to receiver_set
   setting_heard = go (bit_at s.efcr 0) refl (bit_at s.efr 5) refl (bit_at mark 0) refl (eqb (as_queued s byte mark) s.xoff2) refl
     where
       go : (ninth : Bool) → bit_at s.efcr 0 ≡ ninth → (detect : Bool) → bit_at s.efr 5 ≡ detect → (bit : Bool) → bit_at mark 0 ≡ bit
           → (equal : Bool) → eqb (as_queued s byte mark) s.xoff2 ≡ equal
           → (heard_of s byte mark).setting
-          ≡ pick (ninth && detect && bit) (record { register = register.Efcr; byte = replaced_at s.efcr (pick equal 0 2) 1 1 }) no_setting
+          ≡ pick (ninth && detect && bit) (Some (record { register = register.Efcr; byte = replaced_at s.efcr (pick equal 0 2) 1 1 })) None
       go false n detect d bit b equal e = rw n
       go true n false d true b equal e = rw (n, d, b)
       go true n false d false b equal e = rw (n, d, b)
@@ -275,9 +274,9 @@ module _ (s : Settings) (byte mark : ℕ) where
       go true n true d false b equal e = rw (n, d, b)
 
   pub arrival_sets : settings_after s (touch.Arrival byte mark) ≡ pick (is_address s mark) (with_setting s (efcr_heard s byte mark)) s
-  unfolding settings_after setting_by no_setting
+  unfolding settings_after setting_by
   arrival_sets = rw setting_heard (go (is_address s mark))
     where
-      go : (address : Bool) → with_setting s (pick address (efcr_heard s byte mark) no_setting) ≡ pick address (with_setting s (efcr_heard s byte mark)) s
+      go : (address : Bool) → with_any s (pick address (Some (efcr_heard s byte mark)) None) ≡ pick address (with_setting s (efcr_heard s byte mark)) s
       go true = refl
-      go false = closed_sets_none s no_setting refl
+      go false = refl

@@ -10,7 +10,7 @@ use Rattle.event.specs.declared.refusal.Refusal.{Refusal}
 use Rattle.file.specs.declared.number.Number.{Number}
 use Rattle.file.specs.Numbers.{second_at, number_at}
 use Rattle.registers.specs.Windows.{general_at, enhanced_at, register_at, tcr_open}
-use Rattle.registers.specs.Writes.{guard_open, ier_written, fcr_written, efcr_written, taken_by, no_setting, setting_of, if_set, with_setting, resets_device}
+use Rattle.registers.specs.Writes.{guard_open, ier_written, fcr_written, efcr_written, taken_by, setting_of, if_set, with_setting, resets_device}
 use Rattle.registers.specs.Pairs.{chooses_pair}
 use Rattle.levels.specs.Levels.{fours, transmit_level}
 use Rattle.levels.specs.Queues.{room_of, fifo_changes, clears}
@@ -111,5 +111,5 @@ table =
     ∷ []
 
 pub cases_hold : map (λ row. row.given) table ≡ map (λ row. row.expected) table
-unfolding table one_if differs bit_at part_at replaced_at cut_to empty_queue oldest_of marked_from any_mark_of adds_to takes_from clears_all stays_as moved_by after_of second_at number_at general_at enhanced_at register_at tcr_open guard_open ier_written fcr_written efcr_written taken_by no_setting setting_of if_set with_setting chooses_pair resets_device mode_of arrived_byte equals_xoff2 does_pass unless_off receiver_set gate_plain heard_plain heard_ninth heard_address heard_of room_of fours transmit_level fifo_changes clears line_arrived line_read line_cleared fate_number lsr_of spaces_of all_free is_busy thr_condition latch_driven latch_after rts_of modem_read flow_heard flow_written flow_settled code_of line_status_pending timeout_pending receive_pending transmit_pending modem_pending special_pending flow_pending pending_of iir_of flags_cleared flags_arrived thr_settled flags_settled with_line with_modem with_flags with_latch with_flow pending_at shown_at status_of read_of setting_by receive_change sent_by transmit_change resets_by act_with write_act read_act arrival_act act_of moment_of moment_at settled_of step_at after_step settings_reset lines_reset reset_of blank_settings blank_channel reset_device new_device side_numbered touched_at named_step step_of
+unfolding table one_if differs bit_at part_at replaced_at cut_to empty_queue oldest_of marked_from any_mark_of adds_to takes_from clears_all stays_as moved_by after_of second_at number_at general_at enhanced_at register_at tcr_open guard_open ier_written fcr_written efcr_written taken_by setting_of if_set with_setting chooses_pair resets_device mode_of arrived_byte equals_xoff2 does_pass unless_off receiver_set gate_plain heard_plain heard_ninth heard_address heard_of room_of fours transmit_level fifo_changes clears line_arrived line_read line_cleared fate_number lsr_of spaces_of all_free is_busy thr_condition latch_driven latch_after rts_of modem_read flow_heard flow_written flow_settled code_of line_status_pending timeout_pending receive_pending transmit_pending modem_pending special_pending flow_pending pending_of iir_of flags_cleared flags_arrived thr_settled flags_settled with_line with_modem with_flags with_latch with_flow pending_at shown_at status_of read_of setting_by receive_change sent_by transmit_change resets_by act_with write_act read_act arrival_act act_of moment_of moment_at settled_of step_at after_step settings_reset lines_reset reset_of blank_settings blank_channel reset_device new_device side_numbered touched_at named_step step_of
 cases_hold = refl

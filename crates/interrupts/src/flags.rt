@@ -22,59 +22,60 @@ pub struct Moment {
 
 impl Flags {
     // After a read that shows an interrupt: only one of IIR shows any.
+    #[tactic(auto, unfolding(crate::specs::Flags::flags_cleared))]
     pub fn cleared(self, shown: Interrupt) -> Flags
         ensures { result ≡ flags_cleared self shown }
     {
-        let mut next = self;
         match shown {
-            Interrupt::LineStatus => next,
-            Interrupt::Timeout => next,
-            Interrupt::Receive => next,
-            Interrupt::Transmit => {
-                next.thr = false;
-                next
-            }
-            Interrupt::Modem => next,
-            Interrupt::Special => {
-                next.special = false;
-                next
-            }
-            Interrupt::Flow => {
-                next.cts = false;
-                next.rts = false;
-                next
-            }
-            Interrupt::Nothing => next,
+            Interrupt::Transmit => Flags { thr: false, ..self },
+            Interrupt::Special => Flags {
+                special: false,
+                ..self
+            },
+            Interrupt::Flow => Flags {
+                cts: false,
+                rts: false,
+                ..self
+            },
+            Interrupt::LineStatus
+            | Interrupt::Timeout
+            | Interrupt::Receive
+            | Interrupt::Modem
+            | Interrupt::Nothing => self,
         }
     }
 
     // After an arrival that is a special match, or is none.
+    #[tactic(auto, unfolding(crate::specs::Flags::flags_arrived))]
     pub fn arrived(self, special: bool) -> Flags
         ensures { result ≡ flags_arrived self special }
     {
-        let mut next = self;
-        next.special = self.special | special;
-        next
+        Flags {
+            special: self.special | special,
+            ..self
+        }
     }
 
     // After new pin values that turn CTS off, or do not.
+    #[tactic(auto, unfolding(crate::specs::Flags::flags_pins))]
     pub fn pins(self, off: bool) -> Flags
         ensures { result ≡ flags_pins self off }
     {
-        let mut next = self;
-        next.cts = self.cts | off;
-        next
+        Flags {
+            cts: self.cts | off,
+            ..self
+        }
     }
 
     // After the act: the RTS flag by RTS before and now, then the THR flag by its condition before and now.
+    #[tactic(auto, using(crate::specs::Laws::flags_in_one))]
     pub fn settled(self, before: Moment, after: Moment) -> Flags
         ensures { result ≡ flags_settled self before after }
     {
         Flags {
-            special: self.special,
-            cts: self.cts,
             rts: self.rts | (before.rts & !after.rts),
             thr: after.thr & (self.thr | !before.thr),
+            ..self
         }
     }
 }

@@ -1,4 +1,5 @@
 -- For proofs alone: what lies behind the borrow once a step's parts are stored.
+use Rattle.std.specs.Prelude.{None}
 use mathlib.Core.Path.{◌≡◌}
 use mathlib.Core.Bool.{true, false}
 use Rattle.event.specs.declared.events.Touch.{Touch}
@@ -24,7 +25,7 @@ module _ (ch : Channel) (t : Touch) (lent : Channel) (step : Step) (rx tx : Queu
   unfolding after_step
   all_stored lies = rw (lies, rx_is, tx_is, is)
 
-  pub none_stored : step.sets ≡ false → lent ≡ record { settings = ch.settings; state = step.state; rx = rx; tx = tx } → lent ≡ touched_by ch t
+  pub none_stored : step.setting ≡ None → lent ≡ record { settings = ch.settings; state = step.state; rx = rx; tx = tx } → lent ≡ touched_by ch t
   unfolding after_step
   none_stored kept lies = rw (lies, rx_is, tx_is, is) (rw (none_set ch t (rw is at kept)))
 

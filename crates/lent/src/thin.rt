@@ -20,7 +20,6 @@ struct Gave {
 }
 
 // An event on the lent record of the channel that it names. The stored registers are written only where one is set.
-#[tactic(auto, using(acts::specs::Laws::step_in))]
 fn advance_channel(lent: &mut Channel, touch: Touch) -> Gave
     requires { ChannelWellFormed lent.old × TouchIn touch }
     ensures gave { (result.resets ≡ (step_at lent.old touch).resets) × (result.reply ≡ (step_at lent.old touch).reply) }
@@ -30,7 +29,7 @@ fn advance_channel(lent: &mut Channel, touch: Touch) -> Gave
     lent.state = step.state;
     settle(&mut lent.rx, step.rx);
     settle(&mut lent.tx, step.tx);
-    if step.sets {
+    if step.setting.is_some() {
         lent.settings = step.settings;
     }
     Gave {
@@ -39,7 +38,8 @@ fn advance_channel(lent: &mut Channel, touch: Touch) -> Gave
     }
 }
 
-// The same on the lent record of the device; the other channel stays as it was.
+// The same on the lent record of the device; the other channel stays as it was. Each arm lends its own field: with the borrow picked
+// first the proof did not close.
 fn touch_channel(lent: &mut Device, side: Side, touch: Touch) -> Gave
     requires { WellFormed lent.old × TouchIn touch }
     ensures { Touched lent.old side touch lent.new result }

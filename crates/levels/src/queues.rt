@@ -2,10 +2,11 @@
 ghost use Rattle.std.specs.Prelude.{◌≡◌};
 ghost use Rattle.levels.specs.Queues.{room_of, fifo_changes, clears, transmits, loads};
 
-use bits::{bit, chosen, differ};
-use registers::{Register, Settings};
+use bits::{bit, chosen};
+use registers::{Register, Settings, Write};
 
 // How many characters the receive queue has room for.
+#[tactic(auto, unfolding(crate::specs::Queues::room_of))]
 pub fn room(settings: Settings) -> u8
     ensures { result ≡ room_of settings }
 {
@@ -13,20 +14,24 @@ pub fn room(settings: Settings) -> u8
 }
 
 // Whether an FCR write turns the FIFOs on or off.
+#[tactic(auto, using(bits::specs::Conditions::ne_differs), unfolding(crate::specs::Queues::fifo_changes))]
 fn fifo_changes(settings: Settings, byte: u8) -> bool
     ensures { result ≡ fifo_changes settings byte }
 {
-    differ(bit(settings.fcr, 0), bit(byte, 0))
+    bit(settings.fcr, 0) != bit(byte, 0)
 }
 
 // Whether a write clears the queue that FCR's bit at a place clears.
-pub fn clears(settings: Settings, register: Register, byte: u8, place: u8) -> bool
-    ensures { result ≡ clears settings register byte place }
+#[tactic(auto, using(registers::specs::Laws::equal_is_same), unfolding(crate::specs::Queues::clears))]
+pub fn clears(settings: Settings, write: Write, place: u8) -> bool
+    ensures { result ≡ clears settings write.register write.byte place }
 {
-    register.is(Register::IirFcr) & (bit(byte, place) | fifo_changes(settings, byte))
+    (write.register == Register::IirFcr)
+        & (bit(write.byte, place) | fifo_changes(settings, write.byte))
 }
 
 // Whether the transmitter is on.
+#[tactic(auto, unfolding(crate::specs::Queues::transmits))]
 pub fn transmits(settings: Settings) -> bool
     ensures { result ≡ transmits settings }
 {
@@ -34,6 +39,7 @@ pub fn transmits(settings: Settings) -> bool
 }
 
 // Whether a slot loads the oldest character, with CTS asserted or not.
+#[tactic(auto, unfolding(crate::specs::Queues::loads))]
 pub fn loads(settings: Settings, cts: bool) -> bool
     ensures { result ≡ loads settings cts }
 {

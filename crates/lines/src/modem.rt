@@ -19,6 +19,7 @@ pub struct Modem {
 }
 
 impl Modem {
+    #[tactic(auto, unfolding(crate::specs::Modem::cts_asserted))]
     pub fn cts(self) -> bool
         ensures { result ≡ cts_asserted self }
     {
@@ -26,6 +27,7 @@ impl Modem {
     }
 
     // Whether new pin values turn CTS off so that its flag sets.
+    #[tactic(auto, unfolding(crate::specs::Modem::cts_off))]
     pub fn cts_off(self, settings: Settings, value: u8) -> bool
         ensures { result ≡ cts_off self settings value }
     {
@@ -33,6 +35,7 @@ impl Modem {
     }
 
     // With new pin values.
+    #[tactic(auto, unfolding(crate::specs::Modem::pins_changed))]
     pub fn changed(self, value: u8) -> Modem
         requires { value < 16 }
         ensures { result ≡ pins_changed self value }
@@ -44,15 +47,17 @@ impl Modem {
     }
 
     // After a register is read.
+    #[tactic(auto, using(registers::specs::Laws::equal_is_same), unfolding(crate::specs::Modem::modem_read))]
     pub fn read(self, register: Register) -> Modem
         ensures { result ≡ modem_read self register }
     {
         Modem {
-            pins: self.pins,
-            changes: chosen(register.is(Register::Msr), 0, self.changes),
+            changes: chosen(register == Register::Msr, 0, self.changes),
+            ..self
         }
     }
 
+    #[tactic(auto, using(bits::specs::Laws::joined_sum), unfolding(crate::specs::Modem::msr_of))]
     pub fn msr(self) -> u8
         requires { ModemIn self }
         ensures { result ≡ msr_of self }

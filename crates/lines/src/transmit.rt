@@ -9,7 +9,7 @@ use registers::Settings;
 // How many characters the transmit queue has room for.
 pub const TRANSMIT_ROOM: u8 = 64;
 
-// A character that is being sent.
+// A character that is being sent. C sees the record's layout, so the flag and the byte stand side by side and are no Option.
 #[repr(C)]
 #[derive(Clone, Copy)]
 pub struct Shift {
@@ -18,6 +18,7 @@ pub struct Shift {
 }
 
 // The free spaces beside so many queued characters.
+#[tactic(auto, unfolding(crate::specs::Transmit::spaces_of))]
 pub fn spaces(count: u8) -> Spaces
     requires { count ≤ transmit_room }
     ensures { result ≡ spaces_of count }
@@ -26,6 +27,7 @@ pub fn spaces(count: u8) -> Spaces
 }
 
 // Whether the transmit queue is empty.
+#[tactic(auto, unfolding(crate::specs::Transmit::all_free))]
 pub fn all_free(free: Spaces) -> bool
     ensures { result ≡ all_free free }
 {
@@ -33,39 +35,43 @@ pub fn all_free(free: Spaces) -> bool
 }
 
 // Whether the interrupt condition of the transmit queue holds.
+#[tactic(auto, unfolding(crate::specs::Transmit::thr_condition))]
 pub fn thr_condition(settings: Settings, free: Spaces) -> bool
     ensures { result ≡ thr_condition settings free }
 {
     if bit(settings.fcr, 0) {
-        return free.reaches(transmit_level(settings));
+        return transmit_level(settings) <= free;
     }
     all_free(free)
 }
 
 impl Shift {
     // Full with the oldest character, or empty.
-    pub fn loaded(some: bool, oldest: u8) -> Shift
-        ensures { result ≡ shift_loaded some oldest }
+    #[tactic(auto, unfolding(crate::specs::Transmit::shift_loaded))]
+    pub fn loaded(full: bool, oldest: u8) -> Shift
+        ensures { result ≡ shift_loaded full oldest }
     {
         Shift {
-            full: some,
-            byte: chosen(some, oldest, 0),
+            full,
+            byte: chosen(full, oldest, 0),
         }
     }
 
     // Whether the queue or the shift register holds something.
+    #[tactic(auto, unfolding(crate::specs::Transmit::is_busy))]
     pub fn busy(self, free: Spaces) -> bool
         ensures { result ≡ is_busy self free }
     {
         !all_free(free) | self.full
     }
 
-    // The character that leaves in a slot, or 256.
+    // The reply to a slot in the document's form: the character that leaves, or 256.
+    #[tactic(auto, unfolding(crate::specs::Transmit::slot_reply))]
     pub fn leaving(self, settings: Settings) -> u16
         ensures { result ≡ slot_reply self settings }
     {
         if self.full {
-            return cut(self.byte, settings.lcr) as u16;
+            return u16::from(cut(self.byte, settings.lcr));
         }
         256
     }

@@ -1,16 +1,18 @@
 -- For proofs alone: code that goes one way whatever a condition says, against the definitions that choose by it.
 use Prim.Native.Nat.{ℕ, zero, suc, ◌+◌, ◌-◌, ◌%◌, ◌<◌, ◌≤◌}
+use native.Mathlib.Nat.{add-zero}
 use native.Mathlib.Omega.{arith}
 use mathlib.Core.Path.{◌≡◌, refl}
 use mathlib.Core.Bool.{Bool, true, false, not, ◌&&◌}
-use lib.ListN.{get_or}
 use lib.Dec.{eqb}
+use Rattle.std.proofs.Common.{Some, None, lt-ltb, le-ltb}
 use Rattle.bits.specs.Choice.{pick}
 use Rattle.bits.specs.Bits.{one_if}
 use Rattle.bits.specs.Laws.{one_if_in}
 use Rattle.queue.specs.declared.Character.{Character}
+use Rattle.queue.specs.declared.Moved.{Moved}
 use Rattle.queue.specs.declared.Queue.{Queue}
-use Rattle.queue.specs.Queue.{none, none_added, takes_from, clears_all, stays_as}
+use Rattle.queue.specs.Queue.{none_added, adds_to, takes_from, clears_all, stays_as}
 
 pub some_to_take : (goes : Bool) (count n : ℕ) → n ≡ one_if (goes && not (eqb count 0)) → n ≤ count
 unfolding one_if
@@ -33,9 +35,18 @@ unfolding clears_all stays_as
 cleared_or_not q true = refl
 cleared_or_not q false = refl
 
-pub oldest_or_none : (q : Queue) (empty : Bool)
-    → ◌≡◌ {A = Character}
-    (record { byte = pick (not empty) (get_or q.bytes q.start 0) 0; mark = pick (not empty) (get_or q.marks q.start 0) 0 })
-    (pick empty none (record { byte = get_or q.bytes q.start 0; mark = get_or q.marks q.start 0 }))
-oldest_or_none q true = refl
-oldest_or_none q false = refl
+-- a character that comes is kept behind the others if fewer than room are queued, and lost otherwise
+module _ (q : Queue) (c : Character) (room : ℕ) (comes : Bool) (e : comes ≡ true) where
+  pub kept_last : q.count < room
+      → ◌≡◌ {A = Moved}
+      (record { start = q.start; count = q.count + 1; kept = true; put = Some (record { place = (q.start + q.count) % 64; character = c }) })
+      (pick comes (adds_to q c room) (stays_as q))
+  unfolding adds_to one_if
+  kept_last fewer = rw (e, lt-ltb q.count room fewer)
+
+  pub lost : room ≤ q.count
+      → ◌≡◌ {A = Moved}
+      (record { start = q.start; count = q.count; kept = false; put = None })
+      (pick comes (adds_to q c room) (stays_as q))
+  unfolding adds_to one_if
+  lost full = rw (e, le-ltb q.count room full, add-zero)

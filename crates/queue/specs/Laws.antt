@@ -4,17 +4,19 @@ use Prim.Native.Nat.{ℕ, zero, suc, ◌+◌, ◌-◌, ◌%◌, ◌<◌, ◌≤�
 use Rattle.std.proofs.Math.Nat.{add-zero}
 use Rattle.std.proofs.Math.Numerals.{add-one}
 use native.Mathlib.Omega.{arith}
-use Rattle.std.specs.Prelude.{◌≡◌, Bool, not, length, set, drop, replicate, eqb, ltb}
+use Rattle.std.specs.Prelude.{◌≡◌, Bool, not, length, set, drop, replicate, eqb, ltb, Option, Some, None, IfSome}
 use Rattle.std.proofs.Math.Path.{refl}
 use Rattle.std.proofs.Common.{ap, length-set, get_or-set_same, ne_eqb, ltb-true}
 use Rattle.std.proofs.Math.Bool.{true, false}
 use mathlib.Core.List.{List, [], ◌∷◌, ◌++◌}
 use Rattle.std.proofs.Math.ListN.{get_or}
 use Rattle.std.proofs.Math.Seq.{get_or-set_other}
+use Rattle.std.proofs.lemmas.Option.{IfSome_then}
 use Rattle.bits.specs.Choice.{pick, pick_by}
 use Rattle.bits.specs.Bits.{one_if}
 use Rattle.queue.specs.declared.Character.{Character}
 use Rattle.queue.specs.declared.Queue.{Queue}
+use Rattle.queue.specs.declared.Put.{Put}
 use Rattle.queue.specs.declared.Moved.{Moved}
 use Rattle.queue.specs.Change.{Change, Add, Take, Clear, Stay}
 use Rattle.queue.specs.Queue.{WellFormed, Below, CharacterIn, Fits, MovedIn, none, empty_queue, oldest_of, marked_from, any_mark_of, adds_to, takes_from, clears_all, stays_as, moved_by, put_into, after_of, changed}
@@ -62,8 +64,11 @@ module _ (bytes marks : List ℕ) (c : Character) (bytes_64 : length bytes ≡ 6
       rw (get_or-set_other bytes at (s % 64) c.byte 0 far, get_or-set_other marks at (s % 64) c.mark 0 far)
       (ap (λ (cs : List Character). char_at bytes marks s ∷ cs) later)
 
+  abbrev put_behind : ℕ → ℕ → Bool → Option Put
+  put_behind s n kept = pick kept (Some (record { place = (s + n) % 64; character = c })) None
+
   from_put : (s n : ℕ) (kept : Bool) → (kept ≡ true → n < 64)
-      → items_from (put_into kept bytes ((s + n) % 64) c.byte) (put_into kept marks ((s + n) % 64) c.mark) s (n + one_if kept)
+      → items_from (put_into (put_behind s n kept) (λ c. c.byte) bytes) (put_into (put_behind s n kept) (λ c. c.mark) marks) s (n + one_if kept)
       ≡ pick kept (items_from bytes marks s n ++ (c ∷ [])) (items_from bytes marks s n)
   unfolding one_if
   from_put s n true p = rw add-one (from_set s n ((s + n) % 64) refl (p refl))
@@ -137,9 +142,9 @@ pub well_formed_empty : WellFormed empty_queue
 unfolding empty_queue
 well_formed_empty = record { start_in = omega arith; count_in = omega arith; bytes_64 = refl; marks_64 = refl }
 
-length_put : (puts : Bool) (places : List ℕ) (place x : ℕ) → length (put_into puts places place x) ≡ length places
-length_put true places place x = simp length-set
-length_put false places place x = refl
+length_put : (put : Option Put) (number : Character → ℕ) (places : List ℕ) → length (put_into put number places) ≡ length places
+length_put None number places = refl
+length_put (Some put) number places = simp length-set
 
 room_for_one : (count room : ℕ) → count ≤ 64 → room ≤ 64 → count + one_if (ltb count room) ≤ 64
 unfolding one_if
@@ -176,10 +181,11 @@ module _ (bound : ℕ) where
   unfolding Below
   empty_below some place = rw (zeros 64 place) some
 
-  put_below : (puts : Bool) (places : List ℕ) (at x : ℕ) → x < bound → Below bound places → Below bound (put_into puts places at x)
+  put_below : (put : Option Put) (number : Character → ℕ) (places : List ℕ) → IfSome put (λ (p : Put). number p.character < bound)
+      → Below bound places → Below bound (put_into put number places)
   unfolding Below
-  put_below true places at x x_in h = set_below bound places at x x_in h
-  put_below false places at x x_in h = h
+  put_below None number places empty h = h
+  put_below (Some put) number places some h = set_below bound places put.place (number put.character) some h
 
   pub oldest_byte_below : (q : Queue) → 0 < bound → Below bound q.bytes → (oldest_of q).byte < bound
   unfolding Below oldest_of
@@ -193,10 +199,11 @@ module _ (bound : ℕ) where
 -- the place that is written is one of the 64
 fits_moved : (q : Queue) (a : Change) (room : ℕ) → Fits (moved_by q a room)
 unfolding moved_by adds_to takes_from clears_all stays_as
-fits_moved q (Add c) room = omega arith
-fits_moved q Take room = omega arith
-fits_moved q Clear room = omega arith
-fits_moved q Stay room = omega arith
+fits_moved q (Add c) room =
+    pick_by (λ (put : Option Put). IfSome put (λ (p : Put). p.place < 64)) (ltb q.count room) (λ _. omega arith) (λ _. tt)
+fits_moved q Take room = tt
+fits_moved q Clear room = tt
+fits_moved q Stay room = tt
 
 -- a character that is offered is within its bounds
 abbrev pub ChangeIn : Change → Type 0
@@ -205,12 +212,13 @@ ChangeIn Take = Unit {0}
 ChangeIn Clear = Unit {0}
 ChangeIn Stay = Unit {0}
 
-character_moved : (q : Queue) (a : Change) (room : ℕ) → ChangeIn a → CharacterIn (moved_by q a room).character
+character_moved : (q : Queue) (a : Change) (room : ℕ) → ChangeIn a → IfSome (moved_by q a room).put (λ (p : Put). CharacterIn p.character)
 unfolding moved_by adds_to takes_from clears_all stays_as
-character_moved q (Add c) room h = h
-character_moved q Take room h = record { byte_in = omega arith; mark_in = omega arith }
-character_moved q Clear room h = record { byte_in = omega arith; mark_in = omega arith }
-character_moved q Stay room h = record { byte_in = omega arith; mark_in = omega arith }
+character_moved q (Add c) room h =
+    pick_by (λ (put : Option Put). IfSome put (λ (p : Put). CharacterIn p.character)) (ltb q.count room) (λ _. h) (λ _. tt)
+character_moved q Take room h = tt
+character_moved q Clear room h = tt
+character_moved q Stay room h = tt
 
 pub moved_in : (q : Queue) (a : Change) (room : ℕ) → WellFormed q → room ≤ 64 → ChangeIn a → MovedIn (moved_by q a room)
 unfolding after_of
@@ -229,11 +237,11 @@ module _ (q : Queue) (m : Moved) (moved : MovedIn m) where
 
   pub bytes_after : Below 256 q.bytes → Below 256 (after_of q m).bytes
   unfolding after_of
-  bytes_after h = put_below 256 m.puts q.bytes m.place m.character.byte moved.character_in.byte_in h
+  bytes_after h = put_below 256 m.put (λ c. c.byte) q.bytes (IfSome_then m.put moved.character_in (λ p inside. inside.byte_in)) h
 
   pub marks_after : Below 8 q.marks → Below 8 (after_of q m).marks
   unfolding after_of
-  marks_after h = put_below 8 m.puts q.marks m.place m.character.mark moved.character_in.mark_in h
+  marks_after h = put_below 8 m.put (λ c. c.mark) q.marks (IfSome_then m.put moved.character_in (λ p inside. inside.mark_in)) h
 
 -- by one change or another, as a condition has it
 pub moved_pick : (q : Queue) (goes : Bool) (a b : Change) (room : ℕ) → moved_by q (pick goes a b) room ≡ pick goes (moved_by q a room) (moved_by q b room)

@@ -1,9 +1,10 @@
 -- Definitions, place by place: "Queued characters and their marks sit together in one record, 64 places".
-use Rattle.std.specs.Prelude.{ℕ, zero, suc, ◌+◌, ◌-◌, ◌%◌, ◌<◌, ◌≤◌, ◌≡◌, Bool, true, false, not, ◌||◌, List, length, get_or, set, replicate, eqb, ltb}
+use Rattle.std.specs.Prelude.{ℕ, zero, suc, ◌+◌, ◌-◌, ◌%◌, ◌<◌, ◌≤◌, ◌≡◌, Bool, true, false, not, ◌||◌, List, length, get_or, set, replicate, eqb, ltb, Option, Some, None, IfSome}
 use Rattle.bits.specs.Choice.{pick}
 use Rattle.bits.specs.Bits.{one_if}
 use Rattle.queue.specs.declared.Character.{Character}
 use Rattle.queue.specs.declared.Queue.{Queue}
+use Rattle.queue.specs.declared.Put.{Put}
 use Rattle.queue.specs.declared.Moved.{Moved}
 use Rattle.queue.specs.Change.{Change, Add, Take, Clear, Stay}
 
@@ -25,14 +26,14 @@ pub record CharacterIn (c : Character) : Type 0 where
 
 -- a place that is written is one of the 64
 abbrev pub Fits : Moved → Type 0
-Fits m = m.place < 64
+Fits m = IfSome m.put (λ (p : Put). p.place < 64)
 
 -- what becomes of a queue within the bounds of one
 pub record MovedIn (m : Moved) : Type 0 where
   pub start_in : m.start < 64
   pub count_in : m.count ≤ 64
   pub place_in : Fits m
-  pub character_in : CharacterIn m.character
+  pub character_in : IfSome m.put (λ (p : Put). CharacterIn p.character)
 
 -- the character that stands for none
 abbrev pub none : Character
@@ -59,7 +60,7 @@ any_mark_of q = marked_from q.marks q.start q.count
 -- ---- what becomes of a queue
 -- where none is offered none is lost, and no place is written
 abbrev pub none_added : ℕ → ℕ → Moved
-none_added start count = record { start = start; count = count; kept = true; puts = false; place = 0; character = none }
+none_added start count = record { start = start; count = count; kept = true; put = None }
 
 -- "kept with its mark if fewer than room are queued, else lost"; "the newcomer is the one lost (house)". It goes to the
 -- place after the last.
@@ -69,9 +70,7 @@ adds_to q c room =
       start = q.start;
       count = q.count + one_if (ltb q.count room);
       kept = ltb q.count room;
-      puts = ltb q.count room;
-      place = (q.start + q.count) % 64;
-      character = c;
+      put = pick (ltb q.count room) (Some (record { place = (q.start + q.count) % 64; character = c })) None;
     }
 
 -- the oldest removed; of an empty queue none
@@ -92,16 +91,17 @@ moved_by q Take room = takes_from q
 moved_by q Clear room = clears_all q
 moved_by q Stay room = stays_as q
 
--- places with one of them written, if one is
-abbrev pub put_into : Bool → List ℕ → ℕ → ℕ → List ℕ
-put_into puts places place x = pick puts (set places place x) places
+-- places with one of them written, if one is: with the number that a character has there
+abbrev pub put_into : Option Put → (Character → ℕ) → List ℕ → List ℕ
+put_into None number places = places
+put_into (Some put) number places = set places put.place (number put.character)
 
 -- the queue after what becomes of it
 unfoldable pub after_of : Queue → Moved → Queue
 after_of q m =
     record {
-      bytes = put_into m.puts q.bytes m.place m.character.byte;
-      marks = put_into m.puts q.marks m.place m.character.mark;
+      bytes = put_into m.put (λ c. c.byte) q.bytes;
+      marks = put_into m.put (λ c. c.mark) q.marks;
       start = m.start;
       count = m.count;
     }

@@ -4,9 +4,9 @@
 
 ghost use Rattle.std.specs.Prelude.{◌≡◌, ◌≤◌};
 ghost use Rattle.bits.specs.Choice.{pick};
-ghost use Rattle.queue.specs.Queue.{WellFormed, Fits, empty_queue, none_added, adds_to, takes_from, clears_all, stays_as, oldest_of, any_mark_of, put_into, after_of};
+ghost use Rattle.queue.specs.Queue.{WellFormed, Fits, empty_queue, none_added, adds_to, takes_from, clears_all, stays_as, oldest_of, any_mark_of, after_of};
 
-use bits::{chosen, one_if};
+use bits::chosen;
 
 #[derive(Clone, Copy)]
 pub struct Character {
@@ -14,6 +14,8 @@ pub struct Character {
     pub mark: u8,
 }
 
+// Two arrays and a count beside them: document 01 names this form, and C sees its layout. That a queue is well formed is a clause
+// and not a part of its type, since `sc16is752_new` takes a record of which nothing is asked.
 #[repr(C)]
 #[derive(Clone, Copy)]
 pub struct Queue {
@@ -23,16 +25,21 @@ pub struct Queue {
     pub count: u8,
 }
 
-// What becomes of a queue in an event: where its characters lie, whether one that was offered was kept, and the character
-// that goes to a place, if one does. Where none is offered none is lost.
+// A character and the place that it goes to.
+#[derive(Clone, Copy)]
+pub struct Put {
+    pub place: u8,
+    pub character: Character,
+}
+
+// What becomes of a queue in an event: where its characters lie, whether one that was offered was kept, and what is put
+// somewhere, if something is. Where none is offered none is lost.
 #[derive(Clone, Copy)]
 pub struct Moved {
     pub start: u8,
     pub count: u8,
     pub kept: bool,
-    pub puts: bool,
-    pub place: u8,
-    pub character: Character,
+    pub put: Option<Put>,
 }
 
 // No character goes to a place: the others lie somewhere.
@@ -40,16 +47,15 @@ fn none_added(start: u8, count: u8) -> Moved
     ensures { result ≡ none_added start count }
 {
     Moved {
-        start: start,
-        count: count,
+        start,
+        count,
         kept: true,
-        puts: false,
-        place: 0,
-        character: Character { byte: 0, mark: 0 },
+        put: None,
     }
 }
 
 impl Queue {
+    #[tactic(auto, unfolding(crate::specs::Queue::empty_queue))]
     pub fn empty() -> Queue
         ensures { result ≡ empty_queue }
     {
@@ -61,6 +67,7 @@ impl Queue {
         }
     }
 
+    #[tactic(auto, unfolding(crate::specs::Queue::stays_as))]
     pub fn stays(self) -> Moved
         ensures { result ≡ stays_as self }
     {
@@ -68,37 +75,41 @@ impl Queue {
     }
 
     // A character offered, if it comes to that: it goes behind the others if fewer than `room` are queued.
+    #[tactic(auto, using(crate::proofs::OneWay::kept_last, crate::proofs::OneWay::lost), unfolding(crate::specs::Queue::stays_as))]
     pub fn adds(self, comes: bool, character: Character, room: u8) -> Moved
         requires { WellFormed self × (room ≤ 64) }
         ensures { result ≡ pick comes (adds_to self character room) (stays_as self) }
     {
-        let start = self.start;
-        let count = self.count;
-        if comes {
-            let fits = count < room;
+        if !comes {
+            return self.stays();
+        }
+        if room <= self.count {
             return Moved {
-                start: start,
-                count: count + one_if(fits),
-                kept: fits,
-                puts: fits,
-                place: (start + count) % 64,
-                character: character,
+                kept: false,
+                ..self.stays()
             };
         }
-        none_added(start, count)
+        let place = (self.start + self.count) % 64;
+        Moved {
+            start: self.start,
+            count: self.count + 1,
+            kept: true,
+            put: Some(Put { place, character }),
+        }
     }
 
     // The oldest character removed, if it is to go and there is one.
+    #[tactic(auto, using(bits::specs::Conditions::from_one_if, crate::proofs::OneWay::some_to_take, crate::proofs::OneWay::taken_or_not))]
     pub fn takes(self, goes: bool) -> Moved
         requires { WellFormed self }
         ensures { result ≡ pick goes (takes_from self) (stays_as self) }
     {
-        let count = self.count;
-        let taken = one_if(goes & (count != 0));
-        none_added((self.start + taken) % 64, count - taken)
+        let taken = u8::from(goes & (self.count != 0));
+        none_added((self.start + taken) % 64, self.count - taken)
     }
 
     // All characters removed, if they are to go.
+    #[tactic(auto, using(crate::proofs::OneWay::cleared_or_not))]
     pub fn clears(self, goes: bool) -> Moved
         ensures { result ≡ pick goes (clears_all self) (stays_as self) }
     {
@@ -106,35 +117,35 @@ impl Queue {
     }
 
     // The oldest character and its mark, 0 and 0 of an empty queue.
+    #[tactic(auto, unfolding(crate::specs::Queue::oldest_of))]
     pub fn oldest(self) -> Character
         requires { WellFormed self }
         ensures { result ≡ oldest_of self }
     {
-        let some = self.count != 0;
-        let at = self.start as usize;
+        if self.count == 0 {
+            return Character { byte: 0, mark: 0 };
+        }
+        // The arrays alone are copied to find a place in: in `self` it would keep the whole record in memory.
+        let at = usize::from(self.start);
         let bytes = self.bytes;
         let marks = self.marks;
         Character {
-            byte: chosen(some, bytes[at], 0),
-            mark: chosen(some, marks[at], 0),
+            byte: bytes[at],
+            mark: marks[at],
         }
     }
 
-    // Whether some queued mark is not 0.
+    // Whether some queued mark is not 0. A `for`, since `any` over the range took three parts in a hundred more of the step.
+    #[tactic(auto, using(crate::proofs::Search::left_start, crate::proofs::Search::left_found, crate::proofs::Search::left_again, crate::proofs::Search::left_none), unfolding(crate::specs::Queue::any_mark_of))]
     pub fn any_mark(self) -> bool
         requires { WellFormed self }
         ensures { result ≡ any_mark_of self }
     {
-        let start = self.start;
-        let count = self.count;
         let marks = self.marks;
-        let mut i: u8 = 0;
-        while i < count {
-            let at = ((start + i) % 64) as usize;
-            if marks[at] != 0 {
+        for i in 0..self.count {
+            if marks[usize::from((self.start + i) % 64)] != 0 {
                 return true;
             }
-            i += 1;
         }
         false
     }
@@ -144,41 +155,23 @@ impl Queue {
         requires { Fits moved }
         ensures { result ≡ after_of self moved }
     {
-        let puts = moved.puts;
-        let place = moved.place as usize;
-        let mut bytes = self.bytes;
-        let mut marks = self.marks;
-        if puts {
-            bytes[place] = moved.character.byte;
-            marks[place] = moved.character.mark;
-        }
-        Queue {
-            bytes: bytes,
-            marks: marks,
-            start: moved.start,
-            count: moved.count,
-        }
-    }
-}
-
-// The places with a character put at one of them, if one is put.
-fn put(bytes: &mut [u8; 64], marks: &mut [u8; 64], moved: Moved)
-    requires { Fits moved }
-    ensures { (bytes.new ≡ put_into moved.puts bytes.old moved.place moved.character.byte) × (marks.new ≡ put_into moved.puts marks.old moved.place moved.character.mark) }
-{
-    if moved.puts {
-        let at = moved.place as usize;
-        bytes[at] = moved.character.byte;
-        marks[at] = moved.character.mark;
+        let mut queue = self;
+        settle(&mut queue, moved);
+        queue
     }
 }
 
 // The lent queue after what becomes of it: a byte and a mark are stored where they belong, and no place is copied.
+#[tactic(auto, unfolding(crate::specs::Queue::after_of))]
 pub fn settle(lent: &mut Queue, moved: Moved)
     requires { Fits moved }
     ensures { lent.new ≡ after_of lent.old moved }
 {
-    (*lent).start = moved.start;
-    (*lent).count = moved.count;
-    put(&mut (*lent).bytes, &mut (*lent).marks, moved);
+    lent.start = moved.start;
+    lent.count = moved.count;
+    if let Some(Put { place, character }) = moved.put {
+        let at = usize::from(place);
+        lent.bytes[at] = character.byte;
+        lent.marks[at] = character.mark;
+    }
 }

@@ -1,12 +1,11 @@
 -- Definitions: "Receive queue": what the stored registers make of an arrival, before any queue is looked at.
-use Rattle.std.specs.Prelude.{ℕ, Bool, true, false, not, ◌&&◌, eqb}
+use Rattle.std.specs.Prelude.{ℕ, Bool, true, false, not, ◌&&◌, eqb, Some, None}
 use Rattle.bits.specs.Choice.{pick}
 use Rattle.bits.specs.Bits.{bit_at, replaced_at, cut_to}
 use Rattle.registers.specs.declared.register.Register.TheVariants as register
 use Rattle.registers.specs.declared.settings.Setting.{Setting}
 use Rattle.registers.specs.declared.settings.Settings.{Settings}
 use Rattle.registers.specs.declared.pair.Pair.{Pair}
-use Rattle.registers.specs.Writes.{no_setting}
 use Rattle.registers.specs.Pairs.{chooses_pair, pair_at}
 use Rattle.receiver.specs.declared.arrival.Gate.{Gate}
 use Rattle.receiver.specs.declared.arrival.Gate.TheVariants as gate
@@ -66,16 +65,16 @@ heard_plain s byte mark =
     record {
       gate = gate_plain s byte mark;
       special = not (bit_at s.efcr 1) && special_match s byte mark;
-      setting = no_setting;
+      setting = None;
     }
 
 -- "ninth bit 0 passes unless EFCR 1 is set (2)"
 unfoldable pub as_data : Settings → Heard
-as_data s = record { gate = unless_off s; special = false; setting = no_setting }
+as_data s = record { gate = unless_off s; special = false; setting = None }
 
 -- "EFCR 0 set, EFR 5 clear: ninth bit 1 passes; ninth bit 0 passes unless EFCR 1 is set (2)." The ninth bit is mark 1.
 unfoldable pub heard_ninth : Settings → ℕ → Heard
-heard_ninth s mark = pick (not (bit_at mark 0)) (as_data s) (record { gate = gate.Passes; special = false; setting = no_setting })
+heard_ninth s mark = pick (not (bit_at mark 0)) (as_data s) (record { gate = gate.Passes; special = false; setting = None })
 
 -- "EFCR 0 and EFR 5 set: ninth bit 1 and equal to XOFF2 clears EFCR 1 and passes; ninth bit 1 and unequal sets EFCR 1 and is
 -- dropped (3); ninth bit 0 as in the line above. No special flag."
@@ -83,8 +82,8 @@ unfoldable pub heard_address : Settings → ℕ → ℕ → Heard
 heard_address s byte mark =
     pick (not (bit_at mark 0)) (as_data s)
     (pick (equals_xoff2 s byte mark)
-    (record { gate = gate.Passes; special = false; setting = receiver_set s 0 })
-    (record { gate = gate.Elsewhere; special = false; setting = receiver_set s 2 }))
+    (record { gate = gate.Passes; special = false; setting = Some (receiver_set s 0) })
+    (record { gate = gate.Elsewhere; special = false; setting = Some (receiver_set s 2) }))
 
 -- by the mode
 abbrev pub heard_in : Mode → Settings → ℕ → ℕ → Heard

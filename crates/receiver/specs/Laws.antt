@@ -1,5 +1,5 @@
 -- Laws: the quiet count and the register that an arrival sets stay within their bounds, and so do a queued byte, a fate and LSR.
-use Rattle.std.specs.Prelude.{ℕ, ◌+◌, ◌*◌, ◌<◌, ◌≤◌, ◌≡◌, Bool, false, not, ltb}
+use Rattle.std.specs.Prelude.{ℕ, ◌+◌, ◌*◌, ◌<◌, ◌≤◌, ◌≡◌, Bool, false, not, ltb, Some}
 use Rattle.std.proofs.Common.{arith, ◌∙◌, ltb-true}
 use Rattle.std.proofs.Math.Path.{refl}
 use Rattle.std.proofs.Math.Bool.{true}
@@ -10,7 +10,7 @@ use Rattle.registers.specs.declared.register.Register.{Register}
 use Rattle.registers.specs.declared.register.Register.TheVariants as register
 use Rattle.registers.specs.declared.settings.Settings.{Settings}
 use Rattle.registers.specs.Windows.{same}
-use Rattle.registers.specs.Writes.{no_setting}
+use Rattle.registers.specs.Writes.{sets}
 use Rattle.registers.specs.Bounds.{SettingIn, SettingsIn}
 use Rattle.registers.specs.Pairs.{chooses_pair}
 use Rattle.registers.specs.Laws.{none_in, efcr_holds}
@@ -51,7 +51,7 @@ quiet_quieter l q = one_more l.quiet q (ltb l.quiet 4) refl
 
 -- ---- the register that an arrival sets: EFCR with its bit 1 anew
 module _ (s : Settings) (ok : SettingsIn s) where
-  receiver_in : (byte : ℕ) → byte < 256 → SettingIn (receiver_set s byte)
+  receiver_in : (byte : ℕ) → byte < 256 → SettingIn (Some (receiver_set s byte))
   unfolding receiver_set
   receiver_in byte fits =
       let zeros = ok.efcr_in.efcr_zeros refl in
@@ -72,16 +72,16 @@ module _ (s : Settings) (ok : SettingsIn s) where
   heard_in_lem byte mark = heard_in_mode (mode_of s) byte mark
 
 -- and no other register
-keeps_efr_in_mode : (m : Mode) (s : Settings) (byte mark : ℕ) → same (heard_in m s byte mark).setting.register register.Efr ≡ false
-unfolding heard_plain as_data heard_ninth heard_address receiver_set no_setting
+keeps_efr_in_mode : (m : Mode) (s : Settings) (byte mark : ℕ) → sets (heard_in m s byte mark).setting register.Efr ≡ false
+unfolding heard_plain as_data heard_ninth heard_address receiver_set
 keeps_efr_in_mode mode.Plain s byte mark = refl
 keeps_efr_in_mode mode.Ninth s byte mark =
-    pick_by (λ (h : Heard). same h.setting.register register.Efr ≡ false) (not (bit_at mark 0)) (λ _. refl) (λ _. refl)
+    pick_by (λ (h : Heard). sets h.setting register.Efr ≡ false) (not (bit_at mark 0)) (λ _. refl) (λ _. refl)
 keeps_efr_in_mode mode.Address s byte mark =
-    pick_by (λ (h : Heard). same h.setting.register register.Efr ≡ false) (not (bit_at mark 0)) (λ _. refl)
-    (λ _. pick_by (λ (h : Heard). same h.setting.register register.Efr ≡ false) (equals_xoff2 s byte mark) (λ _. refl) (λ _. refl))
+    pick_by (λ (h : Heard). sets h.setting register.Efr ≡ false) (not (bit_at mark 0)) (λ _. refl)
+    (λ _. pick_by (λ (h : Heard). sets h.setting register.Efr ≡ false) (equals_xoff2 s byte mark) (λ _. refl) (λ _. refl))
 
-pub heard_keeps_efr : (s : Settings) (byte mark : ℕ) → same (heard_of s byte mark).setting.register register.Efr ≡ false
+pub heard_keeps_efr : (s : Settings) (byte mark : ℕ) → sets (heard_of s byte mark).setting register.Efr ≡ false
 unfolding heard_of
 heard_keeps_efr s byte mark = keeps_efr_in_mode (mode_of s) s byte mark
 

@@ -4,5 +4,5 @@
 mod arrival;
 mod line;
 
-pub use arrival::{Gate, Heard, arrived_byte, heard_by};
+pub use arrival::{Arrival, Gate, Heard};
 pub use line::{Line, Status, fate};

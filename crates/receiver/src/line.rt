@@ -3,7 +3,7 @@ ghost use Rattle.std.specs.Prelude.{◌≡◌, ◌<◌, ◌≤◌};
 ghost use Rattle.receiver.specs.Line.{line_arrived, line_read, line_cleared, line_quieter, fate_number, lsr_of};
 
 use crate::arrival::Gate;
-use bits::{chosen, joined, one_if};
+use bits::{chosen, joined};
 use registers::Register;
 
 #[repr(C)]
@@ -15,6 +15,7 @@ pub struct Line {
 
 impl Line {
     // After an arrival that the queue kept or was not offered, or that it lost.
+    #[tactic(auto, unfolding(crate::specs::Line::line_arrived))]
     pub fn arrived(self, kept: bool) -> Line
         ensures { result ≡ line_arrived self kept }
     {
@@ -25,53 +26,51 @@ impl Line {
     }
 
     // After a register is read.
+    #[tactic(auto, using(registers::specs::Laws::equal_is_same), unfolding(crate::specs::Line::line_read))]
     pub fn read(self, register: Register) -> Line
         ensures { result ≡ line_read self register }
     {
         Line {
-            overrun: self.overrun & !register.is(Register::Lsr),
-            quiet: chosen(register.is(Register::RhrThr), 0, self.quiet),
+            overrun: self.overrun & (register != Register::Lsr),
+            quiet: chosen(register == Register::RhrThr, 0, self.quiet),
         }
     }
 
     // After a write that clears the receive queue, or does not.
+    #[tactic(auto, unfolding(crate::specs::Line::line_cleared))]
     pub fn cleared(self, clears: bool) -> Line
         ensures { result ≡ line_cleared self clears }
     {
         Line {
-            overrun: self.overrun,
             quiet: chosen(clears, 0, self.quiet),
+            ..self
         }
     }
 
     // After a quiet character time.
+    #[tactic(auto, using(bits::specs::Conditions::from_one_if), unfolding(crate::specs::Line::line_quieter))]
     pub fn quieter(self) -> Line
         requires { self.quiet ≤ 4 }
         ensures { result ≡ line_quieter self }
     {
-        let quiet = self.quiet;
         Line {
-            overrun: self.overrun,
-            quiet: quiet + one_if(quiet < 4),
+            quiet: self.quiet + u8::from(self.quiet < 4),
+            ..self
         }
     }
 }
 
-// An arrival's fate by the gate and by whether the queue kept it.
+// An arrival's fate by the gate and by whether the queue kept it, told by its number: it is the reply.
+#[tactic(auto, unfolding(crate::specs::Line::fate_number))]
 pub fn fate(gate: Gate, kept: bool) -> u16
     ensures { result ≡ fate_number gate kept }
 {
     match gate {
-        Gate::Passes => {
-            if kept {
-                return 0;
-            }
-            1
-        }
+        Gate::Passes if kept => 0,
+        Gate::Passes => 1,
         Gate::Off => 2,
         Gate::Elsewhere => 3,
-        Gate::Xoff => 4,
-        Gate::Xon => 4,
+        Gate::Xoff | Gate::Xon => 4,
     }
 }
 
@@ -87,14 +86,15 @@ pub struct Status {
 }
 
 impl Status {
+    #[tactic(auto, using(bits::specs::Conditions::from_one_if, crate::proofs::Sums::lsr_sum))]
     pub fn lsr(self) -> u8
         requires { self.mark < 8 }
         ensures { result ≡ lsr_of self }
     {
-        let low = joined(one_if(self.ready), 1, one_if(self.overrun));
+        let low = joined(u8::from(self.ready), 1, u8::from(self.overrun));
         let marked = joined(low, 2, self.mark);
-        let thr = joined(marked, 5, one_if(self.sent));
-        let all = joined(thr, 6, one_if(self.idle));
-        joined(all, 7, one_if(self.error))
+        let thr = joined(marked, 5, u8::from(self.sent));
+        let all = joined(thr, 6, u8::from(self.idle));
+        joined(all, 7, u8::from(self.error))
     }
 }

@@ -1,5 +1,5 @@
 -- Definitions: what may be stored: "stored values within their bounds".
-use Rattle.std.specs.Prelude.{ℕ, ◌<◌, ◌≡◌, true}
+use Rattle.std.specs.Prelude.{ℕ, ◌<◌, ◌≡◌, true, Option, IfSome}
 use Rattle.bits.specs.Bits.{part_at}
 use Rattle.registers.specs.declared.register.Register.{Register}
 use Rattle.registers.specs.declared.register.Register.TheVariants as register
@@ -15,9 +15,9 @@ pub record MayHold (r : Register) (byte : ℕ) : Type 0 where
   pub mcr_zeros : same r register.Mcr ≡ true → part_at byte 3 1 ≡ 0
   pub efcr_zeros : same r register.Efcr ≡ true → (part_at byte 6 2 ≡ 0) × (part_at byte 3 1 ≡ 0)
 
--- a register set to what it may hold
-abbrev pub SettingIn : Setting → Type 0
-SettingIn set = MayHold set.register set.byte
+-- a register set to what it may hold, or none
+abbrev pub SettingIn : Option Setting → Type 0
+SettingIn setting = IfSome setting (λ set. MayHold set.register set.byte)
 
 -- each stored register holds what it may
 pub record SettingsIn (s : Settings) : Type 0 where

@@ -1,17 +1,20 @@
 -- Laws: what follows from the definitions: registers told apart, what setting none comes to, and that what is stored stays
 -- within its bounds.
-use Rattle.std.specs.Prelude.{ℕ, ◌<◌, ◌≡◌, true, false, List, [], ◌∷◌, get_or}
+use Rattle.std.specs.Prelude.{ℕ, ◌<◌, ◌≡◌, true, false, ◌||◌, List, [], ◌∷◌, get_or, Option, Some, None}
 use Rattle.std.proofs.Common.{arith, sym, ap, ◌∙◌, eqb-true}
 use Rattle.std.proofs.Math.Path.{refl}
+use denote.Enum.Bare.{sameb}
+use denote.Enum.Declared.{tag_of}
 use Rattle.bits.specs.Choice.{pick, pick_by, apart}
 use Rattle.bits.specs.Bits.{bit_at, part_at, replaced_at}
 use Rattle.bits.specs.Laws.{replaced_fits, zeroed_part, replaced_above, replaced_below}
+use Rattle.registers.specs.contracts.register.Register.{the_type}
 use Rattle.registers.specs.declared.register.Register.{Register}
 use Rattle.registers.specs.declared.register.Register.TheVariants as register
 use Rattle.registers.specs.declared.settings.Setting.{Setting}
 use Rattle.registers.specs.declared.settings.Settings.{Settings}
 use Rattle.registers.specs.Windows.{place, same}
-use Rattle.registers.specs.Writes.{guard_open, ier_written, fcr_written, mcr_written, efcr_written, divisor_written, taken_by, no_setting, setting_of, if_set, with_setting}
+use Rattle.registers.specs.Writes.{guard_open, ier_written, fcr_written, mcr_written, efcr_written, divisor_written, taken_by, setting_of, if_set, with_setting, with_any, sets}
 use Rattle.registers.specs.Pairs.{chooses_first, pair_at}
 use Rattle.registers.specs.Bounds.{MayHold, SettingIn, SettingsIn, PairIn}
 
@@ -52,10 +55,48 @@ same_is r q h =
     ∙ ap (λ (n : ℕ). get_or by_place n register.Closed) (eqb-true (place r) (place q) h)
     ∙ sym (found_by_place q)
 
+-- ---- and `==` tells two apart as their places do
+tagged_by_place : (r : Register) → tag_of the_type r ≡ place r
+tagged_by_place register.RhrThr = refl
+tagged_by_place register.Ier = refl
+tagged_by_place register.IirFcr = refl
+tagged_by_place register.Lcr = refl
+tagged_by_place register.Mcr = refl
+tagged_by_place register.Lsr = refl
+tagged_by_place register.Msr = refl
+tagged_by_place register.Spr = refl
+tagged_by_place register.Txlvl = refl
+tagged_by_place register.Rxlvl = refl
+tagged_by_place register.IoControl = refl
+tagged_by_place register.Efcr = refl
+tagged_by_place register.Tcr = refl
+tagged_by_place register.Tlr = refl
+tagged_by_place register.Dll = refl
+tagged_by_place register.Dlh = refl
+tagged_by_place register.Efr = refl
+tagged_by_place register.Xon1 = refl
+tagged_by_place register.Xon2 = refl
+tagged_by_place register.Xoff1 = refl
+tagged_by_place register.Xoff2 = refl
+tagged_by_place register.Closed = refl
+
+pub equal_is_same : (r q : Register) → sameb the_type r q ≡ same r q
+equal_is_same r q = rw (tagged_by_place r, tagged_by_place q)
+
 -- ---- a closed register holds nothing
 pub closed_sets_none : (s : Settings) (set : Setting) → set.register ≡ register.Closed → with_setting s set ≡ s
 unfolding with_setting if_set
 closed_sets_none s set closed = rw closed
+
+pub closed_written : (s : Settings) (byte : ℕ) → setting_of s register.Closed byte ≡ None
+unfolding setting_of
+closed_written s byte = refl
+
+-- ---- and EFR stays where it is not the one that is set
+pub efr_unset : (s : Settings) (setting : Option Setting) → sets setting register.Efr ≡ false → (with_any s setting).efr ≡ s.efr
+unfolding with_setting if_set
+efr_unset s None unset = refl
+efr_unset s (Some set) unset = rw unset
 
 -- ---- what is stored stays within its bounds
 -- 0 may be held by any register, a byte by any but the three that have bits which stay 0
@@ -86,9 +127,8 @@ pub efcr_holds : (byte : ℕ) → byte < 256 → part_at byte 6 2 ≡ 0 → part
 efcr_holds byte fits zeros zero =
     record { byte_in = fits; fcr_zeros = λ h. absurd (apart h); mcr_zeros = λ h. absurd (apart h); efcr_zeros = λ _. (zeros, zero) }
 
-pub none_in : SettingIn no_setting
-unfolding no_setting
-none_in = zero_held register.Closed
+pub none_in : SettingIn None
+none_in = tt
 
 -- what a register takes of a byte that is written to it, it may hold
 module _ (s : Settings) (ok : SettingsIn s) (byte : ℕ) (fits : byte < 256) where
@@ -153,18 +193,19 @@ module _ (s : Settings) (ok : SettingsIn s) (byte : ℕ) (fits : byte < 256) whe
 
   pub setting_in : (written : Register) → SettingIn (setting_of s written byte)
   unfolding setting_of
-  setting_in written = pick_by SettingIn (same written register.RhrThr) (λ _. none_in) (λ _. taken_held written)
+  setting_in written =
+      pick_by SettingIn (same written register.RhrThr || same written register.Closed) (λ _. none_in) (λ _. taken_held written)
 
 -- a register set to what it may hold leaves all that is stored within its bounds
-module _ (s : Settings) (set : Setting) (ok : SettingsIn s) (set_in : SettingIn set) where
+module _ (s : Settings) (set : Setting) (ok : SettingsIn s) (set_in : SettingIn (Some set)) where
   held_set : (stored : Register) (old : ℕ) → MayHold stored old → MayHold stored (if_set set stored old)
   unfolding if_set
   held_set stored old old_in =
       pick_by (MayHold stored) (same set.register stored) (λ h. rw (same_is set.register stored h) at set_in) (λ _. old_in)
 
-  pub settings_in : SettingsIn (with_setting s set)
+  all_held : SettingsIn (with_setting s set)
   unfolding with_setting
-  settings_in =
+  all_held =
       record {
         lcr_in = held_set register.Lcr s.lcr ok.lcr_in;
         ier_in = held_set register.Ier s.ier ok.ier_in;
@@ -182,6 +223,10 @@ module _ (s : Settings) (set : Setting) (ok : SettingsIn s) (set_in : SettingIn 
         xoff1_in = held_set register.Xoff1 s.xoff1 ok.xoff1_in;
         xoff2_in = held_set register.Xoff2 s.xoff2 ok.xoff2_in;
       }
+
+pub settings_in : (s : Settings) (setting : Option Setting) → SettingsIn s → SettingIn setting → SettingsIn (with_any s setting)
+settings_in s None ok none = ok
+settings_in s (Some set) ok set_in = all_held s set ok set_in
 
 -- and so has every pair of what is stored
 pub pair_in : (s : Settings) (place : ℕ) → SettingsIn s → PairIn (pair_at s place)

@@ -1,5 +1,5 @@
 -- Definitions: what a write makes of the stored registers.
-use Rattle.std.specs.Prelude.{ℕ, Bool, ◌&&◌}
+use Rattle.std.specs.Prelude.{ℕ, Bool, false, ◌&&◌, ◌||◌, Option, Some, None}
 use Rattle.bits.specs.Choice.{pick}
 use Rattle.bits.specs.Bits.{bit_at, replaced_at}
 use Rattle.registers.specs.declared.register.Register.{Register}
@@ -44,14 +44,11 @@ taken_by s written byte =
     (pick (same written register.Dll) (divisor_written s s.dll byte)
     (pick (same written register.Dlh) (divisor_written s s.dlh byte) byte)))))
 
--- an event that sets no register
-unfoldable pub no_setting : Setting
-no_setting = record { register = register.Closed; byte = 0 }
-
--- what a write sets; a byte for THR goes to the queue
-unfoldable pub setting_of : Settings → Register → ℕ → Setting
+-- what a write sets; a byte for THR goes to the queue, and a closed register is none
+unfoldable pub setting_of : Settings → Register → ℕ → Option Setting
 setting_of s written byte =
-    pick (same written register.RhrThr) no_setting (record { register = written; byte = taken_by s written byte })
+    pick (same written register.RhrThr || same written register.Closed) None
+    (Some (record { register = written; byte = taken_by s written byte }))
 
 -- a stored register, where some register is set to a byte
 unfoldable pub if_set : Setting → Register → ℕ → ℕ
@@ -78,6 +75,16 @@ with_setting s set =
       xoff1 = if_set set register.Xoff1 s.xoff1;
       xoff2 = if_set set register.Xoff2 s.xoff2;
     }
+
+-- and all that is stored after an event, which sets one register or none
+abbrev pub with_any : Settings → Option Setting → Settings
+with_any s None = s
+with_any s (Some set) = with_setting s set
+
+-- whether an event sets a register
+abbrev pub sets : Option Setting → Register → Bool
+sets None stored = false
+sets (Some set) stored = same set.register stored
 
 -- IOControl: "writing bit 3 resets the device"
 unfoldable pub resets_device : Register → ℕ → Bool

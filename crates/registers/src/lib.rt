@@ -7,4 +7,4 @@ mod settings;
 
 pub use pair::{Pair, chooses_pair};
 pub use register::Register;
-pub use settings::{Setting, Settings, resets_device};
+pub use settings::{Setting, Settings, Write};

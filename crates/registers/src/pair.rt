@@ -1,9 +1,8 @@
 // The pairs of flow characters, and which of them EFR chooses: its bits 1:0 what is compared, its bits 3:2 what is sent.
 ghost use Rattle.std.specs.Prelude.{◌≡◌};
-ghost use Rattle.registers.specs.Writes.{with_setting};
+ghost use Rattle.registers.specs.Writes.{with_any};
 ghost use Rattle.registers.specs.Pairs.{chooses_pair, chooses_first, pair_at};
 
-use crate::register::Register;
 use crate::settings::{Setting, Settings};
 use bits::{chosen, part};
 
@@ -14,6 +13,7 @@ pub struct Pair {
 }
 
 // Whether the two bits of EFR from a place on choose a pair.
+#[tactic(auto, unfolding(crate::specs::Pairs::chooses_pair))]
 pub fn chooses_pair(efr: u8, place: u8) -> bool
     ensures { result ≡ chooses_pair efr place }
 {
@@ -21,6 +21,7 @@ pub fn chooses_pair(efr: u8, place: u8) -> bool
     (choice == 2) | (choice == 1)
 }
 
+#[tactic(auto, unfolding(crate::specs::Pairs::chooses_first))]
 fn chooses_first(efr: u8, place: u8) -> bool
     ensures { result ≡ chooses_first efr place }
 {
@@ -29,6 +30,7 @@ fn chooses_first(efr: u8, place: u8) -> bool
 
 impl Settings {
     // The pair that they choose.
+    #[tactic(auto, unfolding(crate::specs::Pairs::pair_at))]
     pub fn pair(self, place: u8) -> Pair
         ensures { result ≡ pair_at self place }
     {
@@ -39,22 +41,13 @@ impl Settings {
         }
     }
 
-    // The same where a register is set, without putting all the others together.
-    pub fn pair_with(self, setting: Setting, place: u8) -> Pair
-        ensures { result ≡ pair_at (with_setting self setting) place }
+    // The same after an event that sets a register or none.
+    pub fn pair_with(self, setting: Option<Setting>, place: u8) -> Pair
+        ensures { result ≡ pair_at (with_any self setting) place }
     {
-        let first = chooses_first(setting.held(Register::Efr, self.efr), place);
-        Pair {
-            xon: chosen(
-                first,
-                setting.held(Register::Xon1, self.xon1),
-                setting.held(Register::Xon2, self.xon2),
-            ),
-            xoff: chosen(
-                first,
-                setting.held(Register::Xoff1, self.xoff1),
-                setting.held(Register::Xoff2, self.xoff2),
-            ),
+        match setting {
+            Some(set) => self.with(set).pair(place),
+            None => self.pair(place),
         }
     }
 }

@@ -1,7 +1,7 @@
 // The stored registers, the window that they open, and what a write makes of them.
 ghost use Rattle.std.specs.Prelude.{◌≡◌};
 ghost use Rattle.registers.specs.Windows.{enhanced_at, divisor_at, general_at, register_at, tcr_open};
-ghost use Rattle.registers.specs.Writes.{guard_open, ier_written, fcr_written, mcr_written, efcr_written, divisor_written, taken_by, no_setting, setting_of, if_set, with_setting, resets_device};
+ghost use Rattle.registers.specs.Writes.{guard_open, ier_written, fcr_written, mcr_written, efcr_written, divisor_written, taken_by, setting_of, if_set, with_setting, resets_device};
 
 use crate::register::Register;
 use bits::{bit, chosen, replaced};
@@ -26,14 +26,22 @@ pub struct Settings {
     pub xoff2: u8,
 }
 
-// A register and the byte that it is to hold; no event sets more than one. A register that holds nothing is not set.
+// A register and the byte that it is to hold; no event sets more than one.
 #[derive(Clone, Copy)]
 pub struct Setting {
     pub register: Register,
     pub byte: u8,
 }
 
+// A byte that is written to a register.
+#[derive(Clone, Copy)]
+pub struct Write {
+    pub register: Register,
+    pub byte: u8,
+}
+
 // The set that LCR = BF opens.
+#[tactic(auto, unfolding(crate::specs::Windows::enhanced_at))]
 fn enhanced_at(address: u8) -> Register
     ensures { result ≡ enhanced_at address }
 {
@@ -48,6 +56,7 @@ fn enhanced_at(address: u8) -> Register
 }
 
 // The set that any other LCR with bit 7 opens.
+#[tactic(auto, unfolding(crate::specs::Windows::divisor_at))]
 fn divisor_at(address: u8) -> Register
     ensures { result ≡ divisor_at address }
 {
@@ -59,6 +68,7 @@ fn divisor_at(address: u8) -> Register
 }
 
 // The general set; `tcr` is whether 6 and 7 are TCR and TLR.
+#[tactic(auto, unfolding(crate::specs::Windows::general_at))]
 fn general_at(address: u8, tcr: bool) -> Register
     ensures { result ≡ general_at address tcr }
 {
@@ -68,18 +78,10 @@ fn general_at(address: u8, tcr: bool) -> Register
         2 => Register::IirFcr,
         4 => Register::Mcr,
         5 => Register::Lsr,
-        6 => {
-            if tcr {
-                return Register::Tcr;
-            }
-            Register::Msr
-        }
-        7 => {
-            if tcr {
-                return Register::Tlr;
-            }
-            Register::Spr
-        }
+        6 if tcr => Register::Tcr,
+        6 => Register::Msr,
+        7 if tcr => Register::Tlr,
+        7 => Register::Spr,
         8 => Register::Txlvl,
         9 => Register::Rxlvl,
         14 => Register::IoControl,
@@ -89,24 +91,16 @@ fn general_at(address: u8, tcr: bool) -> Register
 }
 
 impl Setting {
-    pub fn none() -> Setting
-        ensures { result ≡ no_setting }
-    {
-        Setting {
-            register: Register::Closed,
-            byte: 0,
-        }
-    }
-
     // What a stored register holds, if it is the one set or not.
+    #[tactic(auto, using(crate::specs::Laws::equal_is_same), unfolding(crate::specs::Writes::if_set))]
     pub fn held(self, stored: Register, old: u8) -> u8
         ensures { result ≡ if_set self stored old }
     {
-        let register = self.register;
-        chosen(register.is(stored), self.byte, old)
+        chosen(self.register == stored, self.byte, old)
     }
 }
 
+#[tactic(auto, unfolding(crate::specs::Writes::efcr_written))]
 fn efcr_written(byte: u8) -> u8
     ensures { result ≡ efcr_written byte }
 {
@@ -114,6 +108,7 @@ fn efcr_written(byte: u8) -> u8
 }
 
 impl Settings {
+    #[tactic(auto, unfolding(crate::specs::Windows::tcr_open))]
     fn tcr_open(self) -> bool
         ensures { result ≡ tcr_open self }
     {
@@ -121,6 +116,7 @@ impl Settings {
     }
 
     // The register that an address names.
+    #[tactic(auto, unfolding(crate::specs::Windows::register_at))]
     pub fn register(self, address: u8) -> Register
         ensures { result ≡ register_at self address }
     {
@@ -136,18 +132,21 @@ impl Settings {
         divisor_at(address)
     }
 
+    #[tactic(auto, unfolding(crate::specs::Writes::guard_open))]
     fn guard_open(self) -> bool
         ensures { result ≡ guard_open self }
     {
         bit(self.efr, 4)
     }
 
+    #[tactic(auto, unfolding(crate::specs::Writes::ier_written))]
     fn ier_written(self, byte: u8) -> u8
         ensures { result ≡ ier_written self byte }
     {
         chosen(self.guard_open(), byte, replaced(byte, self.ier, 4, 4))
     }
 
+    #[tactic(auto, unfolding(crate::specs::Writes::fcr_written))]
     fn fcr_written(self, byte: u8) -> u8
         ensures { result ≡ fcr_written self byte }
     {
@@ -155,6 +154,7 @@ impl Settings {
         chosen(self.guard_open(), stored, replaced(stored, self.fcr, 4, 2))
     }
 
+    #[tactic(auto, unfolding(crate::specs::Writes::mcr_written))]
     fn mcr_written(self, byte: u8) -> u8
         ensures { result ≡ mcr_written self byte }
     {
@@ -163,6 +163,7 @@ impl Settings {
         chosen(self.guard_open(), stored, guarded)
     }
 
+    #[tactic(auto, unfolding(crate::specs::Writes::divisor_written))]
     fn divisor_written(self, old: u8, byte: u8) -> u8
         ensures { result ≡ divisor_written self old byte }
     {
@@ -170,51 +171,41 @@ impl Settings {
     }
 
     // What a register takes of a byte that is written to it.
-    fn taken(self, register: Register, byte: u8) -> u8
-        ensures { result ≡ taken_by self register byte }
+    #[tactic(auto, unfolding(crate::specs::Writes::taken_by))]
+    fn taken(self, write: Write) -> u8
+        ensures { result ≡ taken_by self write.register write.byte }
     {
-        if register.is(Register::Ier) {
-            return self.ier_written(byte);
-        }
-        if register.is(Register::IirFcr) {
-            return self.fcr_written(byte);
-        }
-        if register.is(Register::Mcr) {
-            return self.mcr_written(byte);
-        }
-        if register.is(Register::Efcr) {
-            return efcr_written(byte);
-        }
-        if register.is(Register::Dll) {
-            return self.divisor_written(self.dll, byte);
-        }
-        if register.is(Register::Dlh) {
-            return self.divisor_written(self.dlh, byte);
-        }
-        byte
-    }
-
-    // What a write sets. A byte for THR goes to the queue.
-    pub fn written(self, register: Register, byte: u8) -> Setting
-        ensures { result ≡ setting_of self register byte }
-    {
-        if register.is(Register::RhrThr) {
-            return Setting::none();
-        }
-        Setting {
-            register: register,
-            byte: self.taken(register, byte),
+        let byte = write.byte;
+        match write.register {
+            Register::Ier => self.ier_written(byte),
+            Register::IirFcr => self.fcr_written(byte),
+            Register::Mcr => self.mcr_written(byte),
+            Register::Efcr => efcr_written(byte),
+            Register::Dll => self.divisor_written(self.dll, byte),
+            Register::Dlh => self.divisor_written(self.dlh, byte),
+            _ => byte,
         }
     }
 
-    // With a register set. Most events set none, so that is asked first.
+    // What a write sets. A byte for THR goes to the queue, and a closed register takes none.
+    #[tactic(auto, unfolding(crate::specs::Writes::setting_of))]
+    pub fn written(self, write: Write) -> Option<Setting>
+        ensures { result ≡ setting_of self write.register write.byte }
+    {
+        match write.register {
+            Register::RhrThr | Register::Closed => None,
+            register => Some(Setting {
+                register,
+                byte: self.taken(write),
+            }),
+        }
+    }
+
+    // With a register set.
+    #[tactic(auto, unfolding(crate::specs::Writes::with_setting))]
     pub fn with(self, setting: Setting) -> Settings
         ensures { result ≡ with_setting self setting }
     {
-        let register = setting.register;
-        if register.is(Register::Closed) {
-            return self;
-        }
         Settings {
             lcr: setting.held(Register::Lcr, self.lcr),
             ier: setting.held(Register::Ier, self.ier),
@@ -235,9 +226,12 @@ impl Settings {
     }
 }
 
-// Whether a byte written to a register resets the device.
-pub fn resets_device(register: Register, byte: u8) -> bool
-    ensures { result ≡ resets_device register byte }
-{
-    register.is(Register::IoControl) & bit(byte, 3)
+impl Write {
+    // Whether it resets the device.
+    #[tactic(auto, using(crate::specs::Laws::equal_is_same), unfolding(crate::specs::Writes::resets_device))]
+    pub fn resets_device(self) -> bool
+        ensures { result ≡ resets_device self.register self.byte }
+    {
+        (self.register == Register::IoControl) & bit(self.byte, 3)
+    }
 }

@@ -10,6 +10,7 @@ use Rattle.run.specs.declared.cursor.Cursor.{Cursor}
 use Rattle.run.specs.declared.cursor.Progress.{Progress}
 use Rattle.run.specs.Cursor.{progress_of, text_said, text_in, cursor_after, filled_by}
 use Rattle.run.proofs.Laws.{cursor_sum, text_sum, cursor_more, text_more}
+use Rattle.text.specs.Text.{Puts}
 use Rattle.text.proofs.Stores.{sets_append}
 
 pub record Filling (s : List ℕ) (c₀ : Cursor) (out₀ : List ℕ) (out : List ℕ) (c : Cursor) (count i : ℕ) : Type 0 where
@@ -23,15 +24,14 @@ module _ (s : List ℕ) (c₀ : Cursor) (out₀ : List ℕ) where
   filling_new = record { cursor_is = refl; count_is = refl; out_is = refl }
 
   module _ (out : List ℕ) (c : Cursor) (count i : ℕ) (so_far : Filling s c₀ out₀ out c count i) where
-    pub filling_more : (out' : List ℕ) (p : Progress) (count' : ℕ) → p ≡ progress_of s c
-        → count' ≡ count + length (text_said c.index p.said) → out' ≡ sets out count (text_said c.index p.said)
+    pub filling_more : (out' : List ℕ) (p : Progress) (count' : ℕ) → p ≡ progress_of s c → Puts out count (text_said c.index p.said) out' count'
         → Filling s c₀ out₀ out' p.cursor count' (i + 1)
-    filling_more out' p count' hp hc ho =
+    filling_more out' p count' hp put =
         let text : text_in (i + 1) s c₀ ≡ text_in i s c₀ ++ text_said c.index p.said = rw (hp, so_far.cursor_is) (text_more s i c₀) in
         record {
           cursor_is = rw (hp, so_far.cursor_is) (sym (cursor_more s i c₀));
-          count_is = rw (text, hc, so_far.count_is) (sym (length-append (text_in i s c₀) (text_said c.index p.said)));
-          out_is = rw (text, sets_append out₀ 0 (text_in i s c₀) (text_said c.index p.said), zero-add, ← so_far.count_is, ← so_far.out_is) ho;
+          count_is = rw (text, put.value, so_far.count_is) (sym (length-append (text_in i s c₀) (text_said c.index p.said)));
+          out_is = rw (text, sets_append out₀ 0 (text_in i s c₀) (text_said c.index p.said), zero-add, ← so_far.count_is, ← so_far.out_is) put.out_after;
         }
 
     -- what is left of the steps says nothing and moves nothing: the buffer is filled

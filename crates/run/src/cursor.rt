@@ -1,6 +1,6 @@
 // How far a run is, its next step, and a buffer filled with its next lines.
 ghost use Rattle.std.specs.Prelude.{◌≡◌, ◌++◌, ◌+◌, ◌/◌, ◌≤◌, length, drop, Err};
-ghost use Rattle.std.proofs.lemmas.List.Edits.{sets};
+ghost use Rattle.text.specs.Text.{Puts};
 ghost use Rattle.device.specs.Device.{answered_of};
 ghost use Rattle.run.specs.Cursor.{WellFormed, new_cursor, ended_at, going_on, progress_of, text_said, text_in, filled_by};
 
@@ -28,7 +28,7 @@ struct Progress {
     said: Option<Answer>,
 }
 
-// The cursor after the lines that were put into a buffer, and how many bytes they are.
+// The cursor after the lines that were put into a buffer, and how many bytes they are: the buffer is lent, and memory is fixed.
 #[derive(Clone, Copy)]
 pub struct Filled {
     pub cursor: Cursor,
@@ -38,8 +38,8 @@ pub struct Filled {
 #[tactic(auto, unfolding(crate::specs::Cursor::text_said))]
 fn put_said(out: &mut [u8], at: usize, index: u32, said: Option<Answer>) -> usize
     requires { (index ≤ 65536) × (at + 16 ≤ length out.old) }
-    ensures value { (result ≡ at + length (text_said index said)) × (result ≤ at + 16) }
-    ensures out_after { out.new ≡ sets out.old at (text_said index said) }
+    ensures text { Puts out.old at (text_said index said) out.new result }
+    ensures within { result ≤ at + 16 }
 {
     match said {
         Some(answer) => put_answer(out, at, index, answer),

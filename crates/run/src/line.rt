@@ -1,6 +1,6 @@
 // The line of an answer, put into a buffer at a place.
 ghost use Rattle.std.specs.Prelude.{◌≡◌, ◌+◌, ◌≤◌, length};
-ghost use Rattle.std.proofs.lemmas.List.Edits.{sets};
+ghost use Rattle.text.specs.Text.{Puts};
 ghost use Rattle.run.specs.Lines.{line_of};
 
 use device::Answer;
@@ -10,8 +10,8 @@ use text::put_line;
 #[tactic(auto, using(crate::proofs::Laws::okay_length, crate::proofs::Laws::refused_length), unfolding(crate::specs::Lines::line_of))]
 pub fn put_answer(out: &mut [u8], at: usize, index: u32, answer: Answer) -> usize
     requires { (index ≤ 65536) × (at + 16 ≤ length out.old) }
-    ensures value { (result ≡ at + length (line_of index answer)) × (result ≤ at + 16) }
-    ensures out_after { out.new ≡ sets out.old at (line_of index answer) }
+    ensures text { Puts out.old at (line_of index answer) out.new result }
+    ensures within { result ≤ at + 16 }
 {
     match answer {
         Ok(reply) => put_line(out, at, index, b" OK ", u32::from(reply)),

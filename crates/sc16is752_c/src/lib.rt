@@ -1,4 +1,5 @@
-// The chip as an archive for C: two functions over a record that the caller keeps and lends.
+// The chip as an archive for C: two functions over a record that the caller keeps and lends. They are those of `sc16is752` again, since
+// a crate is a library or an archive and not both.
 #![tactic(auto)]
 
 ghost use Rattle.std.specs.Prelude.{◌≡◌};

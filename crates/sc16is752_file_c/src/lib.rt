@@ -1,4 +1,5 @@
-// The writer of event files as an archive for C.
+// The writer of event files as an archive for C. It is that of `sc16is752_file` again, since a crate is a library or an archive and
+// not both.
 #![tactic(auto)]
 
 ghost use Rattle.event.specs.Events.{event_of};

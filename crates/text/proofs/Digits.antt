@@ -1,18 +1,15 @@
--- For proofs alone: a number's digits stored one after the other, the last one last.
+-- For proofs alone: a number's digits put one after the other, the last one last.
 use Prim.Native.Nat.{ℕ, ◌+◌, ◌/◌, ◌%◌, ◌<◌, ◌≤◌}
-use mathlib.Core.Path.{◌≡◌}
-use mathlib.Core.List.{List}
-use lib.ListN.{length, set}
-use lib.Seq.{sets}
-use Rattle.text.specs.Text.{decimal}
+use mathlib.Core.List.{List, [], ◌∷◌}
+use lib.ListN.{set}
+use Rattle.text.specs.Text.{decimal, Puts}
 use Rattle.text.specs.Laws.{decimal_small, decimal_large}
-use Rattle.text.proofs.Stores.{sets_more}
+use Rattle.text.proofs.Stores.{puts_byte, puts_append}
 
-pub digit_stored : (l : List ℕ) (at n : ℕ) → n < 10 → set l at (48 + n) ≡ sets l at (decimal n)
-digit_stored l at n small = rw (decimal_small n small)
+pub puts_digit : (l : List ℕ) (at n : ℕ) → n < 10 → Puts l at (decimal n) (set l at (48 + n)) (at + 1)
+puts_digit l at n small = rw (decimal_small n small) (puts_byte l at (48 + n))
 
-pub digits_stored : (l now : List ℕ) (at place n : ℕ) → 10 ≤ n
-    → place ≡ at + length (decimal (n / 10)) → now ≡ sets l at (decimal (n / 10))
-    → set now place (48 + n % 10) ≡ sets l at (decimal n)
-digits_stored l now at place n large here so_far =
-    rw (decimal_large n large, sets_more l at (decimal (n / 10)) (48 + n % 10), here, so_far)
+pub puts_digits : (l now : List ℕ) (at place n : ℕ) → 10 ≤ n → Puts l at (decimal (n / 10)) now place
+    → Puts l at (decimal n) (set now place (48 + n % 10)) (place + 1)
+puts_digits l now at place n large so_far =
+    rw (decimal_large n large) (puts_append (decimal (n / 10)) ((48 + n % 10) ∷ []) so_far (puts_byte now place (48 + n % 10)))

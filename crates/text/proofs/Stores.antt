@@ -1,12 +1,15 @@
--- For proofs alone: bytes stored one after the other.
-use Prim.Native.Nat.{ℕ, suc, ◌+◌, ◌<◌, ◌≤◌}
+-- For proofs alone: texts put into a buffer one after the other.
+use Prim.Native.Nat.{ℕ, suc, ◌+◌, ◌-◌, ◌≤◌}
 use native.Mathlib.Nat.{add-zero}
-use native.Mathlib.Numerals.{add-one}
 use native.Mathlib.Omega.{arith}
-use mathlib.Core.Path.{◌≡◌, ◌∙◌}
-use mathlib.Core.List.{List, [], ◌∷◌, ◌++◌}
-use lib.ListN.{length, get_or, take, set}
-use lib.Seq.{sets, take-suc, take_all, length-take-le}
+use mathlib.Core.Path.{◌≡◌, refl, sym, ◌∙◌}
+use mathlib.Core.List.{List, [], ◌∷◌, ◌++◌, append_assoc}
+use lib.ListN.{length, take, drop, set}
+use lib.Seq.{sets}
+use borrow.Rule.Slice.PartMut.{put_mid}
+use Rattle.std.proofs.Common.{length-append, drop-drop}
+use Rattle.std.proofs.lemmas.List.Edits.{sets-eq}
+use Rattle.text.specs.Text.{Puts}
 
 pub sets_append : (l : List ℕ) (at : ℕ) (a b : List ℕ) → sets l at (a ++ b) ≡ sets (sets l at a) (at + length a) b
 sets_append l at [] b = rw add-zero
@@ -14,16 +17,19 @@ sets_append l at (x ∷ a) b =
     let place : suc at + length a ≡ at + suc (length a) = omega arith in
     rw (← place) (sets_append (set l at x) (suc at) a b)
 
-pub sets_more : (l : List ℕ) (at : ℕ) (a : List ℕ) (x : ℕ) → sets l at (a ++ (x ∷ [])) ≡ set (sets l at a) (at + length a) x
-sets_more l at a x = sets_append l at a (x ∷ [])
+pub puts_byte : (l : List ℕ) (at x : ℕ) → Puts l at (x ∷ []) (set l at x) (at + 1)
+puts_byte l at x = record { value = refl; out_after = refl }
 
--- a loop that stores a text: the bytes before `i` are stored
-module _ (l : List ℕ) (at : ℕ) (text : List ℕ) where
-  pub stored_more : (i place : ℕ) (now : List ℕ) → place ≡ at + i → now ≡ sets l at (take i text) → i < length text
-      → set now place (get_or text i 0) ≡ sets l at (take (i + 1) text)
-  stored_more i place now here so_far more =
-      let count : length (take i text) ≡ i = length-take-le i text (omega arith) in
-      rw (here, so_far, add-one, take-suc text i 0, sets_more l at (take i text) (get_or text i 0), count)
+pub puts_append : {l m n : List ℕ} {at place end : ℕ} (a b : List ℕ) → Puts l at a m place → Puts m place b n end → Puts l at (a ++ b) n end
+puts_append {l} {at = at} a b first second =
+    record {
+      value = omega (arith, length-append a b, first.value, second.value);
+      out_after = second.out_after ∙ rw (first.out_after, first.value) (sym (sets_append l at a b));
+    }
 
-  pub stored_all : (i : ℕ) (now : List ℕ) → now ≡ sets l at (take i text) → length text ≤ i → now ≡ sets l at text
-  stored_all i now so_far past = so_far ∙ rw (take_all i text past)
+-- what a copy to a part of the buffer leaves
+pub puts_copy : (l : List ℕ) (at : ℕ) (text copied : List ℕ) → at + length text ≤ length l → copied ≡ text
+    → Puts l at text (put_mid at (at + length text - at) l copied) (at + length text)
+puts_copy l at text copied fits same =
+    let count : at + length text - at ≡ length text = omega arith in
+    record { value = refl; out_after = rw (sets-eq text l at fits, same, count, drop-drop) (sym (append_assoc (take at l) text (drop (at + length text) l))) }

@@ -1,5 +1,6 @@
 -- Definitions: "index from 0, a space, .., a space, the reply or refusal number": numbers in decimal, and the text of a line.
-use Rattle.std.specs.Prelude.{ℕ, zero, suc, ◌+◌, ◌/◌, ◌%◌, List, [], ◌∷◌, ◌++◌, ltb}
+use Rattle.std.specs.Prelude.{ℕ, zero, suc, ◌+◌, ◌/◌, ◌%◌, ◌≡◌, List, [], ◌∷◌, ◌++◌, length, ltb}
+use Rattle.std.proofs.lemmas.List.Edits.{sets}
 use Rattle.bits.specs.Choice.{pick}
 
 -- a number in decimal, its last digits up to a count
@@ -14,3 +15,9 @@ decimal n = last_digits (suc n) n
 -- an index, a word between spaces, a number, and the line feed
 unfoldable pub line_with : ℕ → List ℕ → ℕ → List ℕ
 line_with index word number = decimal index ++ word ++ decimal number ++ (10 ∷ [])
+
+-- a text put into a buffer at a place: it stands there from the place on and nothing else has changed, and what is answered is
+-- the place after it
+pub record Puts (before : List ℕ) (at : ℕ) (text after : List ℕ) (end : ℕ) : Type 0 where
+  pub value : end ≡ at + length text
+  pub out_after : after ≡ sets before at text

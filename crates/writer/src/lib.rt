@@ -10,7 +10,8 @@ use event::{Event, Kind, Touch, event_of, refused_answer};
 // The least number that takes two groups.
 const TWO_GROUPS: u8 = 128;
 
-// The bytes with their count, places past the count 0, and 0 for the refusal; of a refused event no byte, and its number.
+// The bytes with their count, places past the count 0, and 0 for the refusal; of a refused event no byte, and its number. This is
+// document 01's form of what the writer gives, which the contract of `write` and `written_five_at_most` hold.
 #[derive(Clone, Copy)]
 pub struct Written {
     pub bytes: [u8; 5],

@@ -1,10 +1,5 @@
 use Rattle.acts.specs.Laws.{act_in}
-use Rattle.acts.specs.Step.{step_at}
 use Rattle.acts.proofs.step.Goals as goal
 
 pub settled-requires : goal.settled-requires
 settled-requires c = (c.requires.0, rw c.act.ensures (act_in _ c.requires.0 _ c.requires.1))
-
-pub returns : goal.returns
-unfolding step_at
-returns c = simp (c.settled.ensures, c.act.ensures)

@@ -16,9 +16,9 @@ put_said-count-requires c = (omega (arith, c.loop.invariant.1.index_in, c.loop.i
 
 pub loop-preserved : goal.loop-preserved
 loop-preserved c = (
-  omega (arith, c.put_said-count.ensures.value.1),
+  omega (arith, c.put_said-count.ensures.within),
   rw c.proceed-progress.ensures (well_formed_progress _ _ c.loop.invariant.1),
-  filling_more _ _ _ _ _ _ _ c.loop.invariant.2 _ _ _ c.proceed-progress.ensures c.put_said-count.ensures.value.0 c.put_said-count.ensures.out_after,
+  filling_more _ _ _ _ _ _ _ c.loop.invariant.2 _ _ _ c.proceed-progress.ensures c.put_said-count.ensures.text,
 )
 
 pub returns : goal.returns

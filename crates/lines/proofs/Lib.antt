@@ -1,2 +1,0 @@
--- What the proofs of single functions cite.
-pub mod Sums
