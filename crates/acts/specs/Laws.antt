@@ -1,7 +1,7 @@
 -- Laws: what a step comes to for the stored registers and the queues, and that acts, steps and a channel's record stay within
 -- their bounds.
 use Rattle.std.specs.Prelude.{ℕ, ◌<◌, ◌≤◌, ◌≡◌, refl, Bool, None}
-use Rattle.std.proofs.Common.{arith, ◌∙◌}
+use Rattle.std.proofs.Common.{arith}
 use Rattle.std.proofs.Math.Path.{ap}
 use Rattle.bits.specs.Choice.{pick, pick_by}
 use Rattle.bits.specs.Laws.{flag_in}

@@ -9,7 +9,8 @@ use run::Cursor;
 use std::io;
 use std::io::{Read, Stdin, Stdout, Write};
 
-// The bytes taken at most: one more than an input may have, so that too long an input is told from the longest.
+// The bytes taken at most: one more than an input may have, so that too long an input is told from the longest. The program's buffers
+// are of a fixed size, and what stands in them is passed on as a slice.
 const TAKEN: usize = 65537;
 
 // One read into the buffer from a place on: what stood before it stays. Of the bytes that come, `read` says nothing.

@@ -5,10 +5,7 @@ use Rattle.std.proofs.Common.{arith}
 use Rattle.queue.specs.Laws.{queue_after, bytes_after, marks_after, oldest_byte_below, oldest_mark_below}
 use Rattle.registers.specs.declared.register.Register.{Register}
 use Rattle.registers.specs.declared.register.Register.TheVariants as register
-use Rattle.registers.specs.declared.settings.Setting.{Setting}
-use Rattle.registers.specs.declared.settings.Settings.{Settings}
-use Rattle.registers.specs.Writes.{with_setting, with_any}
-use Rattle.registers.specs.Bounds.{SettingIn, SettingsIn}
+use Rattle.registers.specs.Bounds.{SettingsIn}
 use Rattle.registers.specs.Pairs.{pair_at}
 use Rattle.registers.specs.Laws.{settings_in, pair_in}
 use Rattle.receiver.specs.declared.line.Line.{Line}
@@ -63,7 +60,7 @@ unfolding settled_of
 settled_in ch act ok h =
     let stored : SettingsIn (settings_by ch act) = settings_in ch.settings act.setting ok.settings_in h.setting_in in
     record {
-      settings_in = settings_in ch.settings act.setting ok.settings_in h.setting_in;
+      settings_in = stored;
       lines_in =
           with_flow_in _ (with_latch_in _ (with_flags_in act.state h.lines_in _) _) _
           (settled_byte_in act.state.flow h.lines_in.flow_in (settings_by ch act) (pair_at (settings_by ch act) 2) _ (pair_in (settings_by ch act) 2 stored));

@@ -4,7 +4,7 @@ use Rattle.std.specs.Prelude.{◌≤◌, Bool}
 use Rattle.queue.specs.Queue.{MovedIn, after_of}
 use Rattle.levels.specs.declared.trigger.Spaces.{Spaces}
 use Rattle.registers.specs.declared.settings.Settings.{Settings}
-use Rattle.registers.specs.Writes.{with_setting, with_any}
+use Rattle.registers.specs.Writes.{with_any}
 use Rattle.registers.specs.Bounds.{SettingIn, SettingsIn}
 use Rattle.registers.specs.Pairs.{pair_at}
 use Rattle.lines.specs.declared.transmit.Shift.{Shift}

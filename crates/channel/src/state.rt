@@ -18,6 +18,7 @@ pub struct State {
     pub flow: Flow,
 }
 
+// One function a field, since a field is no parameter.
 impl State {
     #[tactic(auto, unfolding(crate::specs::State::with_line))]
     pub fn with_line(self, line: Line) -> State

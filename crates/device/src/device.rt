@@ -10,6 +10,7 @@ use acts::step;
 use channel::Channel;
 use event::{Event, Refusal, Touch, event_of, refused_answer};
 
+// That it is well formed is a clause, as of its channels, and for the same reason.
 #[repr(C)]
 #[derive(Clone, Copy)]
 pub struct Device {
@@ -142,7 +143,7 @@ impl Device {
         self.answered(event.judged())
     }
 
-    // The step from plain numbers.
+    // The step from plain numbers, those of `event_of`.
     #[tactic(auto, using(crate::specs::Laws::made_in))]
     pub fn step_numbers(self, kind: u64, x: u64, y: u64, z: u64) -> Outcome
         requires { WellFormed self }

@@ -1,5 +1,5 @@
--- Laws: refusals and kinds told apart by their numbers, what plain numbers come to, and that an event in range is the one that its own numbers
--- make.
+-- Laws: refusals and kinds told apart by their numbers, what plain numbers come to, and that an event in range is the one that its
+-- own numbers make.
 use Rattle.std.specs.Prelude.{ℕ, ◌<◌, ◌≤◌, ◌≡◌, refl, Bool, List, [], ◌∷◌, get_or, eqb, ltb, Result, Ok, Err}
 use native.Mathlib.Omega.{arith}
 use Rattle.std.proofs.Common.{sym, ap, ◌∙◌, le-ltb, eqb-true, ltb-true, ltb-false}

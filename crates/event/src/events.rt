@@ -6,8 +6,8 @@ ghost use Rattle.event.specs.Events.{event_at, event_of, judged_of, touch_judged
 use crate::kind::Kind;
 use crate::refusal::Refusal;
 
-// What happens at the channel that an event names, in plain bytes: `Device::step` judges every event, so that one is in range is a
-// clause where it was judged before (`TouchIn`), and no type.
+// What happens at the channel that an event names, in plain bytes. That they are in range is a clause (`TouchIn`) and no type, since
+// `Device::step` judges any event.
 #[derive(Clone, Copy)]
 pub enum Touch {
     Write { address: u8, byte: u8 },

@@ -1,4 +1,5 @@
-// A number of an event file: one or two groups of seven bits, lowest first, shortest form only.
+// A number of an event file: one or two groups of seven bits, lowest first, shortest form only. The input and the place are two
+// parameters, as `read_at` is asked: a reader of both would be made anew at each number, and is no plainer.
 ghost use Rattle.std.specs.Prelude.{◌≡◌};
 ghost use Rattle.file.specs.Numbers.{number_at, operand_at};
 
@@ -40,7 +41,7 @@ pub fn number_at(input: &[u8], at: usize) -> Result<Number, Refusal>
     })
 }
 
-// The same where an event's kind has that operand, else 0 and the same place.
+// The same where an event's kind has that operand, else 0 and the same place: `event_of` does not look at it then, so it is no Option.
 #[tactic(auto, unfolding(crate::specs::Numbers::operand_at))]
 pub fn operand_at(input: &[u8], wanted: bool, at: usize) -> Result<Number, Refusal>
     ensures { result ≡ operand_at input.now wanted at }

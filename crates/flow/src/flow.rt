@@ -116,7 +116,8 @@ impl Flow {
     }
 
     // After the act of an event, with so many characters in the receive queue and the stored registers `settings`: those
-    // `before` with one of them set, or none. The pair is put together only where one is sent.
+    // `before` with one of them set, or none. The pair is put together only where one is sent, and from those before: from `settings`
+    // it took a twentieth more of the step.
     #[tactic(auto, unfolding(crate::specs::Flow::flow_settled))]
     pub fn settled(
         self,

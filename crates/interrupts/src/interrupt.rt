@@ -10,7 +10,7 @@ use lines::Modem;
 use receiver::Line;
 use registers::Settings;
 
-// With the table's codes. `Nothing` is a row of the table too, which IIR shows as 01, and so it is no Option's None.
+// With the table's codes. `Nothing` is a row of the table too, which IIR shows as 01 (`code_of`), and so it is no Option's None.
 #[derive(Clone, Copy, PartialEq, Eq)]
 pub enum Interrupt {
     LineStatus = 0x06,

@@ -62,7 +62,8 @@ fn advance_named(lent: &mut Device, side: Side, touch: Touch) -> u16
     gave.reply
 }
 
-// One event from plain numbers on a lent record, which is the next one afterwards; the answer as one number.
+// One event from plain numbers on a lent record, which is the next one afterwards; the answer as one number, as C is told
+// (`Advanced`).
 #[tactic(auto, using(device::specs::Laws::made_in, crate::specs::Laws::touch_in, bits::specs::Conditions::from_one_if), unfolding(device::specs::Device::answered_of, device::specs::Device::step_of, device::specs::Device::answer_number))]
 pub fn advance(lent: &mut Device, kind: u64, x: u64, y: u64, z: u64) -> u32
     requires { WellFormed lent.old }
@@ -71,7 +72,7 @@ pub fn advance(lent: &mut Device, kind: u64, x: u64, y: u64, z: u64) -> u32
     match event_of(kind, x, y, z) {
         Ok(Event::At { channel, touch }) => {
             u32::from(advance_named(lent, Side::from(channel), touch))
-        },
+        }
         Ok(Event::Reset) => {
             *lent = lent.reset();
             0

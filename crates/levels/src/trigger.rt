@@ -36,7 +36,7 @@ fn four_times(register: u8, place: u8) -> u8
 fn picked(table: &[u8; 4], fcr: u8, place: u8) -> u8
     ensures { result ≡ get_or table.now (part_at fcr place 2) 0 }
 {
-    table[part(fcr, place, 2) as usize]
+    table[usize::from(part(fcr, place, 2))]
 }
 
 // A level by FCR unless four bits of TLR give one.

@@ -1,4 +1,5 @@
-// The RTS line and the auto-RTS latch.
+// The RTS line and the auto-RTS latch. Settings and a count of characters stay two parameters: the one is stored, the other is counted
+// anew by each event.
 ghost use Rattle.std.specs.Prelude.{◌≡◌};
 ghost use Rattle.lines.specs.Rts.{halt_reached, resume_reached, latch_driven, latch_after, rts_of};
 

@@ -46,7 +46,7 @@ pub fn thr_condition(settings: Settings, free: Spaces) -> bool
 }
 
 impl Shift {
-    // Full with the oldest character, or empty.
+    // Full with the oldest character, or empty, as the record holds it: a slot has both at hand, and an Option would be taken apart at once.
     #[tactic(auto, unfolding(crate::specs::Transmit::shift_loaded))]
     pub fn loaded(full: bool, oldest: u8) -> Shift
         ensures { result ≡ shift_loaded full oldest }
@@ -65,7 +65,7 @@ impl Shift {
         !all_free(free) | self.full
     }
 
-    // The reply to a slot in the document's form: the character that leaves, or 256.
+    // The reply to a slot in document 01's form, which `slot_reply` states: the character that leaves, or 256.
     #[tactic(auto, unfolding(crate::specs::Transmit::slot_reply))]
     pub fn leaving(self, settings: Settings) -> u16
         ensures { result ≡ slot_reply self settings }

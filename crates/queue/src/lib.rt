@@ -74,7 +74,8 @@ impl Queue {
         none_added(self.start, self.count)
     }
 
-    // A character offered, if it comes to that: it goes behind the others if fewer than `room` are queued.
+    // A character offered, if it comes to that: it goes behind the others if fewer than `room` are queued. An arrival has its character
+    // whether it comes or not, so the two stand side by side.
     #[tactic(auto, using(crate::proofs::OneWay::kept_last, crate::proofs::OneWay::lost), unfolding(crate::specs::Queue::stays_as))]
     pub fn adds(self, comes: bool, character: Character, room: u8) -> Moved
         requires { WellFormed self × (room ≤ 64) }
@@ -116,7 +117,7 @@ impl Queue {
         none_added(self.start, chosen(goes, 0, self.count))
     }
 
-    // The oldest character and its mark, 0 and 0 of an empty queue.
+    // The oldest character and its mark, 0 and 0 of an empty queue: document 01 reads so, and `oldest_of` says it.
     #[tactic(auto, unfolding(crate::specs::Queue::oldest_of))]
     pub fn oldest(self) -> Character
         requires { WellFormed self }

@@ -60,7 +60,8 @@ impl Line {
     }
 }
 
-// An arrival's fate by the gate and by whether the queue kept it, told by its number: it is the reply.
+// An arrival's fate by the gate and by whether the queue kept it, told by document 01's number, which `fate_number` states: it is the
+// reply.
 #[tactic(auto, unfolding(crate::specs::Line::fate_number))]
 pub fn fate(gate: Gate, kept: bool) -> u16
     ensures { result ≡ fate_number gate kept }

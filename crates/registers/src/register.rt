@@ -1,5 +1,6 @@
 // The registers that a channel's addresses name in one window or another. Two of them are one register to a read and another
-// to a write. `Closed` stands among them, and for no None: the document says what an address that is closed reads and takes.
+// to a write. `Closed` stands among them, and for no None: document 01 says what such an address reads and takes (`register_at`,
+// `read_of`).
 #[derive(Clone, Copy, PartialEq, Eq)]
 pub enum Register {
     RhrThr,

@@ -33,7 +33,7 @@ pub struct Setting {
     pub byte: u8,
 }
 
-// A byte that is written to a register.
+// A byte that is written to a register: what is offered, where a `Setting` is what is then stored.
 #[derive(Clone, Copy)]
 pub struct Write {
     pub register: Register,

@@ -52,7 +52,7 @@ read_judged s at read {e} is event =
     let from : ReadingFrom s at (Ok (Some read)) = rw is at (reading_from s at) in
     in_range_judged e (rw event at from.2)
 
--- and one that is refused is out of range of nothing that is stored
+-- and what was read is in range or refused, as a step asks
 pub outcome_made : (m : Made) → OutcomeIn m → MadeIn m
 outcome_made (Ok e) range = range
 outcome_made (Err r) range = tt

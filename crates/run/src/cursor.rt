@@ -12,7 +12,8 @@ use file::{Reading, read_at};
 // The bytes of the longest line.
 const LINE: usize = 16;
 
-// The device after the events so far, the place and the index of the next, and whether the run is over.
+// The device after the events so far, the place and the index of the next, and whether the run is over. Its bounds are a clause
+// (`WellFormed`) and no type: `cursor_after` and the theorems over it speak of the steps of any cursor.
 #[derive(Clone, Copy)]
 pub struct Cursor {
     pub device: Device,

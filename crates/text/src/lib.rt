@@ -20,7 +20,7 @@ fn put_text(out: &mut [u8], at: usize, text: &[u8]) -> usize
     end
 }
 
-// By recursion: the kit's `itoa` puts the same digits, and a run takes two instructions in a hundred more with it.
+// By recursion: the kit's `itoa` puts the same digits into a buffer of its own, from which they are copied, and is no plainer.
 #[tactic(auto, using(crate::specs::Laws::one_digit, crate::specs::Laws::digits_more, crate::proofs::Digits::puts_digit, crate::proofs::Digits::puts_digits))]
 fn put_number(out: &mut [u8], at: usize, number: u32) -> usize
     requires { at + length (decimal number) ≤ length out.old }

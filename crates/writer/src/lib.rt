@@ -60,7 +60,7 @@ fn event_bytes(event: Event) -> Written
     }
 }
 
-// The event of plain numbers, written.
+// The event of plain numbers, those of `event_of`, written.
 #[tactic(auto, using(event::specs::Laws::made_in_range), unfolding(crate::specs::Writing::written_of))]
 pub fn write(kind: u64, x: u64, y: u64, z: u64) -> Written
     ensures { result ≡ written_of (event_of kind x y z) }
@@ -76,7 +76,7 @@ pub fn write(kind: u64, x: u64, y: u64, z: u64) -> Written
 }
 
 // The event of plain numbers, written at the start of a buffer where it fits: the count of its bytes, 0 where it does
-// not fit, or 512 and the refusal number.
+// not fit, or 512 and the refusal number, as C is told (`Put`).
 #[tactic(auto, using(event::specs::Laws::made_in_range), unfolding(crate::specs::Writing::put_answer, crate::specs::Writing::put_into, crate::specs::Writing::whole_of, crate::specs::Writing::padded))]
 pub fn put_event(out: &mut [u8], kind: u64, x: u64, y: u64, z: u64) -> u32
     ensures { Put out.old (event_of kind x y z) out.new result }
