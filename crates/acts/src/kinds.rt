@@ -1,5 +1,5 @@
 // What an event does at the channel that it names, kind by kind, before the channel settles.
-#![tactic(auto, using(queue::specs::Laws::moved_pick, levels::specs::Laws::room_in, registers::specs::Laws::equal_is_same, bits::specs::Conditions::from_one_if,), unfolding(crate::specs::Acts::act_of, crate::specs::Acts::act_with, crate::specs::Acts::lines_act, crate::specs::Acts::write_act, crate::specs::Acts::read_act, crate::specs::Acts::arrival_act, crate::specs::Acts::slot_act, crate::specs::Acts::pins_act, crate::specs::Acts::quiet_act, crate::specs::Acts::look_act, crate::specs::Touches::setting_by, crate::specs::Touches::receive_change, crate::specs::Touches::transmit_change, crate::specs::Touches::sent_by, crate::specs::Touches::resets_by, queue::specs::Queue::moved_by,))]
+#![tactic(auto, using(queue::specs::Laws::moved_pick, queue::specs::Laws::offered_or_not, lines::specs::Laws::loaded_or_not, levels::specs::Laws::room_in, registers::specs::Laws::equal_is_same, bits::specs::Conditions::from_one_if,), unfolding(crate::specs::Acts::act_of, crate::specs::Acts::act_with, crate::specs::Acts::lines_act, crate::specs::Acts::write_act, crate::specs::Acts::read_act, crate::specs::Acts::arrival_act, crate::specs::Acts::slot_act, crate::specs::Acts::pins_act, crate::specs::Acts::quiet_act, crate::specs::Acts::look_act, crate::specs::Touches::setting_by, crate::specs::Touches::receive_change, crate::specs::Touches::transmit_change, crate::specs::Touches::sent_by, crate::specs::Touches::resets_by, queue::specs::Queue::moved_by,))]
 
 ghost use Rattle.std.specs.Prelude.{◌≡◌, ◌<◌};
 ghost use Rattle.queue.specs.Queue.{moved_by};
@@ -42,7 +42,7 @@ fn sends(channel: Channel, write: Write) -> Moved
             byte: write.byte,
             mark: 0,
         };
-        return channel.tx.adds(true, character, TRANSMIT_ROOM);
+        return channel.tx.adds(Some(character), TRANSMIT_ROOM);
     }
     let clears = clears(channel.settings, write, 2);
     channel.tx.clears(clears)
@@ -95,8 +95,8 @@ fn arrival(channel: Channel, arrival: Arrival) -> Act
         byte: arrival.arrived_byte(channel.settings),
         mark: arrival.mark,
     };
-    let passes = gate.passes();
-    let moved = channel.rx.adds(passes, character, room(channel.settings));
+    let offered = gate.passes().then_some(character);
+    let moved = channel.rx.adds(offered, room(channel.settings));
     let line = channel.state.line.arrived(moved.kept);
     let lined = channel.state.with_line(line);
     let flagged = lined.with_flags(channel.state.flags.arrived(heard.special));
@@ -119,10 +119,9 @@ fn slot(channel: Channel) -> Act
     let flow = channel.state.flow;
     let sends = flow.sends(channel.settings);
     let loads = loads(channel.settings, channel.state.modem.cts()) & flow.frees();
-    let shift = Shift::loaded(
-        sends | (loads & (channel.tx.count != 0)),
-        chosen(sends, flow.byte, oldest.byte),
-    );
+    let some = sends | (loads & (channel.tx.count != 0));
+    let character = chosen(sends, flow.byte, oldest.byte);
+    let shift = Shift::loaded(some.then_some(character));
     let shifted = channel.state.with_shift(shift);
     Act {
         setting: None,

@@ -2,6 +2,7 @@
 -- latch rule applied twice is the latch rule.
 use Rattle.std.specs.Prelude.{ℕ, ◌<◌, ◌≤◌, ◌≡◌, refl, Bool, true, false, not}
 use Rattle.std.proofs.Common.{lt_of_le_of_lt, arith}
+use Rattle.std.specs.Bool.{then_some}
 use Rattle.std.specs.Int.Bits.{bit_xor}
 use Rattle.std.proofs.lemmas.Nat.{or_lt, xor_lt, and_le_l}
 use Rattle.bits.specs.Choice.{pick, pick_by}
@@ -16,7 +17,7 @@ use Rattle.lines.specs.declared.modem.Modem.{Modem}
 use Rattle.lines.specs.declared.transmit.Shift.{Shift}
 use Rattle.lines.specs.Modem.{ModemIn, pins_changed, modem_read, msr_of}
 use Rattle.lines.specs.Rts.{halt_reached, resume_reached, latch_driven, latch_after}
-use Rattle.lines.specs.Transmit.{shift_loaded, slot_reply}
+use Rattle.lines.specs.Transmit.{shift_loaded, shift_after, slot_reply}
 
 pub modem_read_lem : (m : Modem) (read : Register) → ModemIn m → ModemIn (modem_read m read)
 unfolding modem_read
@@ -43,6 +44,11 @@ msr_fits m h = omega (arith, h.pins_in, h.changes_in)
 pub shift_loaded_lem : (loaded : Bool) (oldest : ℕ) → oldest < 256 → (shift_loaded loaded oldest).byte < 256
 unfolding shift_loaded
 shift_loaded_lem loaded oldest fits = pick_by (λ (n : ℕ). n < 256) loaded (λ _. fits) (λ _. omega arith)
+
+pub loaded_or_not : (some : Bool) (character : ℕ) → shift_after (then_some some character) ≡ shift_loaded some character
+unfolding shift_loaded
+loaded_or_not true character = refl
+loaded_or_not false character = refl
 
 pub slot_in : (shift : Shift) (s : Settings) → shift.byte < 256 → slot_reply shift s ≤ 256
 unfolding slot_reply

@@ -1,5 +1,5 @@
 -- Definitions: "Transmit side", and the THR condition of "Interrupts".
-use Rattle.std.specs.Prelude.{ℕ, ◌-◌, Bool, not, ◌||◌, eqb, leb}
+use Rattle.std.specs.Prelude.{ℕ, ◌-◌, Bool, true, false, not, ◌||◌, eqb, leb, Option, None, Some}
 use Rattle.bits.specs.Choice.{pick}
 use Rattle.bits.specs.Bits.{bit_at, cut_to}
 use Rattle.registers.specs.declared.settings.Settings.{Settings}
@@ -26,6 +26,11 @@ is_busy shift free = not (all_free free) || shift.full
 -- "then the oldest is loaded": the shift register with it, or with none
 unfoldable pub shift_loaded : Bool → ℕ → Shift
 shift_loaded loaded oldest = record { full = loaded; byte = pick loaded oldest 0 }
+
+-- a slot loads a character, or none
+abbrev pub shift_after : Option ℕ → Shift
+shift_after None = shift_loaded false 0
+shift_after (Some character) = shift_loaded true character
 
 -- "character that left, or 256"; "a held character leaves, cut to the word length"
 unfoldable pub slot_reply : Shift → Settings → ℕ

@@ -1,8 +1,8 @@
 // The transmit side beside its queue: its spaces, the shift register and the slot.
 ghost use Rattle.std.specs.Prelude.{◌≡◌, ◌≤◌};
-ghost use Rattle.lines.specs.Transmit.{transmit_room, spaces_of, all_free, is_busy, shift_loaded, slot_reply, thr_condition};
+ghost use Rattle.lines.specs.Transmit.{transmit_room, spaces_of, all_free, is_busy, shift_after, slot_reply, thr_condition};
 
-use bits::{bit, chosen, cut};
+use bits::{bit, cut};
 use levels::{Spaces, transmit_level};
 use registers::Settings;
 
@@ -46,14 +46,14 @@ pub fn thr_condition(settings: Settings, free: Spaces) -> bool
 }
 
 impl Shift {
-    // Full with the oldest character, or empty, as the record holds it: a slot has both at hand, and an Option would be taken apart at once.
+    // Full with the character that a slot loads, or empty.
     #[tactic(auto, unfolding(crate::specs::Transmit::shift_loaded))]
-    pub fn loaded(full: bool, oldest: u8) -> Shift
-        ensures { result ≡ shift_loaded full oldest }
+    pub fn loaded(character: Option<u8>) -> Shift
+        ensures { result ≡ shift_after character }
     {
         Shift {
-            full,
-            byte: chosen(full, oldest, 0),
+            full: character.is_some(),
+            byte: character.unwrap_or(0),
         }
     }
 

@@ -35,18 +35,18 @@ unfolding clears_all stays_as
 cleared_or_not q true = refl
 cleared_or_not q false = refl
 
--- a character that comes is kept behind the others if fewer than room are queued, and lost otherwise
-module _ (q : Queue) (c : Character) (room : ℕ) (comes : Bool) (e : comes ≡ true) where
+-- a character that is offered is kept behind the others if fewer than room are queued, and lost otherwise
+module _ (q : Queue) (c : Character) (room : ℕ) where
   pub kept_last : q.count < room
       → ◌≡◌ {A = Moved}
       (record { start = q.start; count = q.count + 1; kept = true; put = Some (record { place = (q.start + q.count) % 64; character = c }) })
-      (pick comes (adds_to q c room) (stays_as q))
+      (adds_to q c room)
   unfolding adds_to one_if
-  kept_last fewer = rw (e, lt-ltb q.count room fewer)
+  kept_last fewer = rw (lt-ltb q.count room fewer)
 
   pub lost : room ≤ q.count
       → ◌≡◌ {A = Moved}
       (record { start = q.start; count = q.count; kept = false; put = None })
-      (pick comes (adds_to q c room) (stays_as q))
+      (adds_to q c room)
   unfolding adds_to one_if
-  lost full = rw (e, le-ltb q.count room full, add-zero)
+  lost full = rw (le-ltb q.count room full, add-zero)

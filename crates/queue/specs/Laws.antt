@@ -5,6 +5,7 @@ use Rattle.std.proofs.Math.Nat.{add-zero}
 use Rattle.std.proofs.Math.Numerals.{add-one}
 use native.Mathlib.Omega.{arith}
 use Rattle.std.specs.Prelude.{◌≡◌, Bool, not, length, set, drop, replicate, eqb, ltb, Option, Some, None, IfSome}
+use Rattle.std.specs.Bool.{then_some}
 use Rattle.std.proofs.Math.Path.{refl}
 use Rattle.std.proofs.Common.{ap, length-set, get_or-set_same, ne_eqb, ltb-true}
 use Rattle.std.proofs.Math.Bool.{true, false}
@@ -19,7 +20,7 @@ use Rattle.queue.specs.declared.Queue.{Queue}
 use Rattle.queue.specs.declared.Put.{Put}
 use Rattle.queue.specs.declared.Moved.{Moved}
 use Rattle.queue.specs.Change.{Change, Add, Take, Clear, Stay}
-use Rattle.queue.specs.Queue.{WellFormed, Below, CharacterIn, Fits, MovedIn, none, empty_queue, oldest_of, marked_from, any_mark_of, adds_to, takes_from, clears_all, stays_as, moved_by, put_into, after_of, changed}
+use Rattle.queue.specs.Queue.{WellFormed, Below, CharacterIn, Fits, MovedIn, none, empty_queue, oldest_of, marked_from, any_mark_of, adds_to, offered_to, takes_from, clears_all, stays_as, moved_by, put_into, after_of, changed}
 use Rattle.queue.specs.List.{char_at, items_from, items, some_mark, list_after}
 
 -- ---- the length is the count
@@ -247,6 +248,10 @@ module _ (q : Queue) (m : Moved) (moved : MovedIn m) where
 pub moved_pick : (q : Queue) (goes : Bool) (a b : Change) (room : ℕ) → moved_by q (pick goes a b) room ≡ pick goes (moved_by q a room) (moved_by q b room)
 moved_pick q true a b room = refl
 moved_pick q false a b room = refl
+
+pub offered_or_not : (q : Queue) (comes : Bool) (c : Character) (room : ℕ) → offered_to q (then_some comes c) room ≡ pick comes (adds_to q c room) (stays_as q)
+offered_or_not q true c room = refl
+offered_or_not q false c room = refl
 
 -- ---- places are used again: however many characters come and go, the list is what the same changes make of a list
 abbrev pub all_changed : ℕ → List Change → Queue → Queue

@@ -62,6 +62,9 @@ any_mark_of q = marked_from q.marks q.start q.count
 abbrev pub none_added : ℕ → ℕ → Moved
 none_added start count = record { start = start; count = count; kept = true; put = None }
 
+unfoldable pub stays_as : Queue → Moved
+stays_as q = none_added q.start q.count
+
 -- "kept with its mark if fewer than room are queued, else lost"; "the newcomer is the one lost (house)". It goes to the
 -- place after the last.
 unfoldable pub adds_to : Queue → Character → ℕ → Moved
@@ -73,6 +76,11 @@ adds_to q c room =
       put = pick (ltb q.count room) (Some (record { place = (q.start + q.count) % 64; character = c })) None;
     }
 
+-- a character offered, if one is
+abbrev pub offered_to : Queue → Option Character → ℕ → Moved
+offered_to q None room = stays_as q
+offered_to q (Some c) room = adds_to q c room
+
 -- the oldest removed; of an empty queue none
 unfoldable pub takes_from : Queue → Moved
 takes_from q =
@@ -80,9 +88,6 @@ takes_from q =
 
 unfoldable pub clears_all : Queue → Moved
 clears_all q = none_added q.start 0
-
-unfoldable pub stays_as : Queue → Moved
-stays_as q = none_added q.start q.count
 
 -- by what happens to it, over a room for one more character
 unfoldable pub moved_by : Queue → Change → ℕ → Moved

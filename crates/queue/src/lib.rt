@@ -4,7 +4,7 @@
 
 ghost use Rattle.std.specs.Prelude.{◌≡◌, ◌≤◌};
 ghost use Rattle.bits.specs.Choice.{pick};
-ghost use Rattle.queue.specs.Queue.{WellFormed, Fits, empty_queue, none_added, adds_to, takes_from, clears_all, stays_as, oldest_of, any_mark_of, after_of};
+ghost use Rattle.queue.specs.Queue.{WellFormed, Fits, empty_queue, none_added, offered_to, takes_from, clears_all, stays_as, oldest_of, any_mark_of, after_of};
 
 use bits::chosen;
 
@@ -74,16 +74,15 @@ impl Queue {
         none_added(self.start, self.count)
     }
 
-    // A character offered, if it comes to that: it goes behind the others if fewer than `room` are queued. An arrival has its character
-    // whether it comes or not, so the two stand side by side.
+    // A character offered, if one is: it goes behind the others if fewer than `room` are queued.
     #[tactic(auto, using(crate::proofs::OneWay::kept_last, crate::proofs::OneWay::lost), unfolding(crate::specs::Queue::stays_as))]
-    pub fn adds(self, comes: bool, character: Character, room: u8) -> Moved
+    pub fn adds(self, offered: Option<Character>, room: u8) -> Moved
         requires { WellFormed self × (room ≤ 64) }
-        ensures { result ≡ pick comes (adds_to self character room) (stays_as self) }
+        ensures { result ≡ offered_to self offered room }
     {
-        if !comes {
+        let Some(character) = offered else {
             return self.stays();
-        }
+        };
         if room <= self.count {
             return Moved {
                 kept: false,
