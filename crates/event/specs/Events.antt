@@ -1,6 +1,8 @@
 -- Definitions: "Events and replies": the nine kinds with their operands, made from plain numbers.
 use Rattle.std.specs.Prelude.{ℕ, ◌<◌, Bool, eqb, ltb, Result, Ok, Err}
 use Rattle.bits.specs.Choice.{pick}
+use Rattle.event.specs.declared.kind.Kind.TheVariants as named
+use Rattle.event.specs.Kinds.{kind_number}
 use Rattle.event.specs.declared.refusal.Refusal.{Refusal}
 use Rattle.event.specs.declared.refusal.Refusal.TheVariants as refusal
 use Rattle.event.specs.declared.events.Touch.{Touch}
@@ -44,19 +46,19 @@ event_at channel (Err why) = Err why
 -- what happens by a kind that names a channel, by its further operands
 unfoldable pub touch_of : ℕ → ℕ → ℕ → Result Touch Refusal
 touch_of kind y z =
-    pick (eqb kind 0) (address_in y (byte_in z (Ok (touch.Write y z))))
-    (pick (eqb kind 1) (address_in y (Ok (touch.Read y)))
-    (pick (eqb kind 2) (byte_in y (mark_in z (Ok (touch.Arrival y z))))
-    (pick (eqb kind 3) (Ok touch.Slot)
-    (pick (eqb kind 4) (pins_in y (Ok (touch.Pins y)))
-    (pick (eqb kind 5) (Ok touch.Quiet) (Ok touch.RtsLook))))))
+    pick (eqb kind (kind_number named.Write)) (address_in y (byte_in z (Ok (touch.Write y z))))
+    (pick (eqb kind (kind_number named.Read)) (address_in y (Ok (touch.Read y)))
+    (pick (eqb kind (kind_number named.Arrival)) (byte_in y (mark_in z (Ok (touch.Arrival y z))))
+    (pick (eqb kind (kind_number named.Slot)) (Ok touch.Slot)
+    (pick (eqb kind (kind_number named.Pins)) (pins_in y (Ok (touch.Pins y)))
+    (pick (eqb kind (kind_number named.Quiet)) (Ok touch.Quiet) (Ok touch.RtsLook))))))
 
 -- "judge 3 and then 4 to 8; operands that the kind lacks aren't looked at"
 unfoldable pub event_of : ℕ → ℕ → ℕ → ℕ → Made
 event_of kind x y z =
     pick (unknown_kind kind) (Err refusal.Kind)
-    (pick (eqb kind 6) (Ok event.Reset)
-    (pick (eqb kind 7) (Ok event.IrqLook)
+    (pick (eqb kind (kind_number named.Reset)) (Ok event.Reset)
+    (pick (eqb kind (kind_number named.IrqLook)) (Ok event.IrqLook)
     (channel_in x (event_at x (touch_of kind y z)))))
 
 -- an event's own numbers: its kind, and its operands with 0 for those that the kind lacks
@@ -67,18 +69,18 @@ pub record Numbers : Type 0 where
   pub z : ℕ
 
 abbrev pub numbers_at : ℕ → Touch → Numbers
-numbers_at channel (touch.Write address byte) = record { kind = 0; x = channel; y = address; z = byte }
-numbers_at channel (touch.Read address) = record { kind = 1; x = channel; y = address; z = 0 }
-numbers_at channel (touch.Arrival byte mark) = record { kind = 2; x = channel; y = byte; z = mark }
-numbers_at channel touch.Slot = record { kind = 3; x = channel; y = 0; z = 0 }
-numbers_at channel (touch.Pins value) = record { kind = 4; x = channel; y = value; z = 0 }
-numbers_at channel touch.Quiet = record { kind = 5; x = channel; y = 0; z = 0 }
-numbers_at channel touch.RtsLook = record { kind = 8; x = channel; y = 0; z = 0 }
+numbers_at channel (touch.Write address byte) = record { kind = kind_number named.Write; x = channel; y = address; z = byte }
+numbers_at channel (touch.Read address) = record { kind = kind_number named.Read; x = channel; y = address; z = 0 }
+numbers_at channel (touch.Arrival byte mark) = record { kind = kind_number named.Arrival; x = channel; y = byte; z = mark }
+numbers_at channel touch.Slot = record { kind = kind_number named.Slot; x = channel; y = 0; z = 0 }
+numbers_at channel (touch.Pins value) = record { kind = kind_number named.Pins; x = channel; y = value; z = 0 }
+numbers_at channel touch.Quiet = record { kind = kind_number named.Quiet; x = channel; y = 0; z = 0 }
+numbers_at channel touch.RtsLook = record { kind = kind_number named.RtsLook; x = channel; y = 0; z = 0 }
 
 abbrev pub numbers_of : Event → Numbers
 numbers_of (event.At channel t) = numbers_at channel t
-numbers_of event.Reset = record { kind = 6; x = 0; y = 0; z = 0 }
-numbers_of event.IrqLook = record { kind = 7; x = 0; y = 0; z = 0 }
+numbers_of event.Reset = record { kind = kind_number named.Reset; x = 0; y = 0; z = 0 }
+numbers_of event.IrqLook = record { kind = kind_number named.IrqLook; x = 0; y = 0; z = 0 }
 
 -- what numbers come to
 abbrev pub made_of : Numbers → Made

@@ -29,7 +29,11 @@ refusal_some refusal.Mark = omega arith
 refusal_some refusal.Pins = omega arith
 refusal_some refusal.Long = omega arith
 
--- and two of one number are one
+-- ---- where each is found in a list at its number, two of one number are one
+told_by_number : {A : Type 0} (number : A → ℕ) (all : List A) (other : A) → ((x : A) → x ≡ get_or all (number x) other)
+    → (x y : A) → number x ≡ number y → x ≡ y
+told_by_number number all other found x y same = found x ∙ ap (λ (n : ℕ). get_or all n other) same ∙ sym (found y)
+
 abbrev by_number : List Refusal
 by_number =
     refusal.Long ∷ refusal.Number ∷ refusal.Short ∷ refusal.Kind ∷ refusal.Channel ∷ refusal.Address ∷ refusal.Byte ∷ refusal.Mark
@@ -47,40 +51,29 @@ found_by_number refusal.Pins = refl
 found_by_number refusal.Long = refl
 
 pub refusal_is : (r q : Refusal) → refusal_number r ≡ refusal_number q → r ≡ q
-refusal_is r q same = found_by_number r ∙ ap (λ (n : ℕ). get_or by_number n refusal.Long) same ∙ sym (found_by_number q)
+refusal_is = told_by_number refusal_number by_number refusal.Long found_by_number
 
--- ---- two kinds of one number are one, so that a number names one kind or none
+-- a kind is found so too, and none has a number above 8: a number names one kind or none
 abbrev kinds : List Kind
 kinds =
     kind.Write ∷ kind.Read ∷ kind.Arrival ∷ kind.Slot ∷ kind.Pins ∷ kind.Quiet ∷ kind.Reset ∷ kind.IrqLook ∷ kind.RtsLook ∷ []
 
-named_in_kinds : (k : Kind) → k ≡ get_or kinds (kind_number k) kind.Write
-named_in_kinds kind.Write = refl
-named_in_kinds kind.Read = refl
-named_in_kinds kind.Arrival = refl
-named_in_kinds kind.Slot = refl
-named_in_kinds kind.Pins = refl
-named_in_kinds kind.Quiet = refl
-named_in_kinds kind.Reset = refl
-named_in_kinds kind.IrqLook = refl
-named_in_kinds kind.RtsLook = refl
-
-kind_known : (k : Kind) → kind_number k ≤ 8
-kind_known kind.Write = omega arith
-kind_known kind.Read = omega arith
-kind_known kind.Arrival = omega arith
-kind_known kind.Slot = omega arith
-kind_known kind.Pins = omega arith
-kind_known kind.Quiet = omega arith
-kind_known kind.Reset = omega arith
-kind_known kind.IrqLook = omega arith
-kind_known kind.RtsLook = omega arith
+found_in_kinds : (k : Kind) → (k ≡ get_or kinds (kind_number k) kind.Write) × (kind_number k ≤ 8)
+found_in_kinds kind.Write = (refl, omega arith)
+found_in_kinds kind.Read = (refl, omega arith)
+found_in_kinds kind.Arrival = (refl, omega arith)
+found_in_kinds kind.Slot = (refl, omega arith)
+found_in_kinds kind.Pins = (refl, omega arith)
+found_in_kinds kind.Quiet = (refl, omega arith)
+found_in_kinds kind.Reset = (refl, omega arith)
+found_in_kinds kind.IrqLook = (refl, omega arith)
+found_in_kinds kind.RtsLook = (refl, omega arith)
 
 pub named_once : (number : ℕ) (one other : Result Kind Refusal) → NamedBy number one → NamedBy number other → one ≡ other
 named_once number (Ok k) (Ok j) one other =
-    ap Ok (named_in_kinds k ∙ ap (λ (n : ℕ). get_or kinds n kind.Write) (one ∙ sym other) ∙ sym (named_in_kinds j))
-named_once number (Ok k) (Err r) one other = absurd (omega (arith, kind_known k, one, other.0))
-named_once number (Err r) (Ok k) one other = absurd (omega (arith, kind_known k, one.0, other))
+    ap Ok (told_by_number kind_number kinds kind.Write (λ x. (found_in_kinds x).0) k j (one ∙ sym other))
+named_once number (Ok k) (Err r) one other = absurd (omega (arith, (found_in_kinds k).1, one, other.0))
+named_once number (Err r) (Ok k) one other = absurd (omega (arith, (found_in_kinds k).1, one.0, other))
 named_once number (Err r) (Err q) one other = ap Err (one.1 ∙ sym other.1)
 
 -- the numbers that are looked at: 0 for the operands that the kind lacks
