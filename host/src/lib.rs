@@ -1,6 +1,7 @@
 //! The chip of `include/sc16is752.h` for Rust: a record that is lent to the proved step, event by event.
 
 pub mod model;
+pub mod script;
 pub mod wrong;
 
 /// The record's size in bytes, as the C header has it. The layout inside is nobody's business here.
