@@ -1,11 +1,11 @@
 -- Laws: the laws that join masks and shifts to parts of a byte, each once over the place and the width.
 use Rattle.std.specs.Prelude.{ℕ, ◌+◌, ◌-◌, ◌*◌, ◌/◌, ◌%◌, ◌^◌, ◌<◌, ◌≤◌, ◌≡◌, refl, Bool, true, false, leb}
-use Rattle.std.proofs.Common.{mod-eq_of_lt, mod-lt, lt_of_lt_of_le, div-one, add-zero, mul_comm, one-mul, arith, ◌∙◌, pow_pos, pow_mono, pow-add, shr_lt, shr-shr, leb-true, leb-false}
+use Rattle.std.proofs.Common.{mod-eq_of_lt, mod-lt, lt_of_lt_of_le, div-one, add-zero, mul_comm, arith, ◌∙◌, pow_pos, pow_mono, pow-add, shr_lt, shr-shr, leb-true, leb-false}
 use Rattle.std.proofs.Math.Nat.{mul-mod_left, zero-div, zero-mod, div-eq_of_lt, lt_of_le_of_lt, mod-le, mod-one, add_comm}
 use Rattle.std.proofs.Math.Path.{sym, ap}
 use Rattle.std.specs.Int.Bits.{bit_and, bit_or, or_shifted_r}
 use Rattle.std.proofs.lemmas.Nat.{and_mask, shl-shr, mod-pow-add, shr_le}
-use Rattle.std.proofs.Math.Pow.{pow-lt, high, low, field, mod-mod-pow}
+use Rattle.std.proofs.Math.Pow.{high, low, field, mod-mod-pow}
 use Rattle.std.proofs.Math.Arith.{digits_lt}
 use Rattle.bits.specs.Bits.{one_if, part_at, joined_at, replaced_at, cut_to}
 
@@ -36,9 +36,6 @@ module _ (byte place : ℕ) (fits : byte < 256) where
           rw (nothing_past (omega arith)) (pow_pos (8 - place))
 
 -- ---- a part
-pub one_shifted : (width : ℕ) → width < 8 → 1 * 2 ^ width % 256 ≡ 2 ^ width
-one_shifted width near = rw (one-mul (2 ^ width)) (mod-eq_of_lt (pow-lt near))
-
 pub part_in : (byte place width : ℕ) → part_at byte place width < 2 ^ width
 unfolding part_at
 part_in byte place width = mod-lt (byte / 2 ^ place) (pow_pos width)
