@@ -2,16 +2,19 @@
  *
  * What the caller owes:
  * - chip is not null and points to sizeof(struct sc16is752) bytes that the caller may read and write. Any alignment does.
- * - Before sc16is752_new the record is zeroed, once. Before sc16is752_step it has been through sc16is752_new.
- * - Only these two functions write the record. Reading it, and copying it whole to another record, is free. A record from
+ * - Before sc16is752_new the record is zeroed, once. Before sc16is752_step and sc16is752_drain it has been through
+ *   sc16is752_new.
+ * - Only these three functions write the record. Reading it, and copying it whole to another record, is free. A record from
  *   anywhere else has to be well formed: in each queue start < 64, count <= 64 and every mark < 8, in line
  *   quiet <= 4, in modem pins < 16 and changes < 16, in settings bits 3:1 of fcr, 3 of mcr and 7, 6 and 3 of efcr 0, and
  *   in every bool 0 or 1.
- * - bytes is not null and points to length bytes that the caller may read and write; a length of 0 will do.
- * - While a call runs, nothing else touches its record or its bytes: one thread at a time, and no signal handler between.
+ * - bytes, and buffer alike, is not null and points to length bytes that the caller may read and write; a length of 0 will
+ *   do. buffer has no byte of the record.
+ * - While a call runs, nothing else touches its record, its bytes or its buffer: one thread at a time, and no signal handler
+ *   between.
  *
  * In return, each record, each byte and each answer is exactly what the document's rules say of the record before and the
- * event, and the record is well formed again. The functions keep no other state, allocate nothing and do not fail.
+ * event or drain, and the record is well formed again. The functions keep no other state, allocate nothing and do not fail.
  */
 #ifndef SC16IS752_H
 #define SC16IS752_H
@@ -113,6 +116,17 @@ void sc16is752_new(struct sc16is752 *chip);
 /* One event, by its kind and operands in the order of the table below; operands that the kind lacks are not looked at.
  * Answers the reply, or SC16IS752_REFUSED plus the refusal number; a refused event leaves the record as it was. */
 uint32_t sc16is752_step(struct sc16is752 *chip, uint64_t kind, uint64_t x, uint64_t y, uint64_t z);
+
+/* Empties a receive queue at one go: reads of RHR go to the front of buffer until there are length of them, or as many as
+ * most says, or the queue is empty. Answers how many; the bytes behind them stay as they were. The record then is the one
+ * after as many steps SC16IS752_READ of SC16IS752_RHR, each an event of the channel. With LCR bit 7 set, or a channel above
+ * 1, there are none; where there are none nothing changes, not even the quiet count. channel and most may be any numbers.
+ *
+ * The characters come without their marks, so a damaged one looks like any other. Look at LSR right before the call: with
+ * SC16IS752_LSR_ERROR clear, no queued character has a mark. With it set, take them by single reads, LSR before each RHR.
+ * The same look shows SC16IS752_LSR_OVERRUN, that a character was lost, and clears it. Where a character may arrive between
+ * that look and the call, let most be RXLVL, read before LSR. */
+size_t sc16is752_drain(struct sc16is752 *chip, uint64_t channel, uint64_t most, uint8_t *buffer, size_t length);
 
 /* Writes an event of an event file: its bytes are put at the start of bytes, if there is room for them, and what is behind
  * them stays as it was. Answers their count, or 0 if there is no room, or SC16IS752_REFUSED plus the refusal number; with

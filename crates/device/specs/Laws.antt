@@ -217,6 +217,19 @@ pub other_kept : (d : Device) (at : Side) (ch : Channel) → channel_at (with_ch
 other_kept d side.A ch = refl
 other_kept d side.B ch = refl
 
+-- a channel put in its place, and put there again
+pub own_with : (d : Device) (at : Side) (ch : Channel) → channel_at (with_channel d at ch) at ≡ ch
+own_with d side.A ch = refl
+own_with d side.B ch = refl
+
+pub again_with : (d : Device) (at : Side) (ch other : Channel) → with_channel (with_channel d at ch) at other ≡ with_channel d at other
+again_with d side.A ch other = refl
+again_with d side.B ch other = refl
+
+pub same_with : (d : Device) (at : Side) → with_channel d at (channel_at d at) ≡ d
+same_with d side.A = refl
+same_with d side.B = refl
+
 pub other_channel_alone : (d : Device) (at : Side) (t : Touch) → resets_by (channel_at d at).settings t ≡ false
     → channel_at (named_step d at t).device (other_side at) ≡ channel_at d (other_side at)
 unfolding named_step touched_at

@@ -27,6 +27,7 @@ use Rattle.device.specs.declared.device.Device.{Device}
 use Rattle.device.specs.declared.device.Stepped.{Stepped}
 use Rattle.device.specs.Reset.{settings_reset, lines_reset, reset_of, blank_channel, reset_device, new_device}
 use Rattle.device.specs.Device.{channel_at, with_channel, side_numbered, touched_at, named_step, step_of, answered_of}
+use Rattle.device.specs.Laws.{same_with}
 
 pub record Settled (d : Device) : Type 0 where
   pub a_settled : channel.Settled d.a
@@ -73,10 +74,6 @@ settled_answered d (Ok e) h = settled_step d e h
 settled_answered d (Err r) h = h
 
 -- ---- what leaves the channel that it names as it is, leaves the device as it is
-same_with : (d : Device) (at : Side) → with_channel d at (channel_at d at) ≡ d
-same_with d side.A = refl
-same_with d side.B = refl
-
 left_alone : (d : Device) (at : Side) (t : Touch) → resets_by (channel_at d at).settings t ≡ false → touched_by (channel_at d at) t ≡ channel_at d at
     → (named_step d at t).device ≡ d
 unfolding named_step touched_at

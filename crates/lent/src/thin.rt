@@ -14,13 +14,13 @@ use queue::settle;
 
 // What is given for an event at a channel: whether the device is to be reset, and the reply.
 #[derive(Clone, Copy)]
-struct Gave {
-    resets: bool,
-    reply: u16,
+pub(crate) struct Gave {
+    pub(crate) resets: bool,
+    pub(crate) reply: u16,
 }
 
 // An event on the lent record of the channel that it names. The stored registers are written only where one is set.
-fn advance_channel(lent: &mut Channel, touch: Touch) -> Gave
+pub(crate) fn advance_channel(lent: &mut Channel, touch: Touch) -> Gave
     requires { ChannelWellFormed lent.old × TouchIn touch }
     ensures gave { (result.resets ≡ (step_at lent.old touch).resets) × (result.reply ≡ (step_at lent.old touch).reply) }
     ensures lent_after { lent.new ≡ touched_by lent.old touch }

@@ -1,4 +1,4 @@
-// The chip as C sees it: two functions over a record that the caller keeps and lends.
+// The chip as C sees it: three functions over a record that the caller keeps and lends.
 #![tactic(auto)]
 
 ghost use Rattle.std.specs.Prelude.{◌≡◌};
@@ -6,9 +6,10 @@ ghost use Rattle.event.specs.Events.{event_of};
 ghost use Rattle.device.specs.Reset.{new_device};
 ghost use Rattle.device.specs.Device.{WellFormed};
 ghost use Rattle.lent.specs.Lent.{Advanced};
+ghost use Rattle.lent.specs.Drain.{Emptied};
 
 use device::Device;
-use lent::advance;
+use lent::{advance, fill};
 
 // The lent record is a new device's afterwards.
 pub fn sc16is752_new(chip: &mut Device)
@@ -23,4 +24,12 @@ pub fn sc16is752_step(chip: &mut Device, kind: u64, x: u64, y: u64, z: u64) -> u
     ensures { Advanced chip.old (event_of kind x y z) chip.new result }
 {
     advance(chip, kind, x, y, z)
+}
+
+// A receive queue emptied at one go into the lent bytes: how many were put there.
+pub fn sc16is752_drain(chip: &mut Device, channel: u64, most: u64, buffer: &mut [u8]) -> usize
+    requires { WellFormed chip.old }
+    ensures { Emptied chip.old channel most buffer.old (record { device = chip.new; count = result }) buffer.new }
+{
+    fill(chip, channel, most, buffer)
 }

@@ -1,4 +1,4 @@
-// The chip as an archive for C: two functions over a record that the caller keeps and lends. They are those of `sc16is752` again, since
+// The chip as an archive for C: three functions over a record that the caller keeps and lends. They are those of `sc16is752` again, since
 // a crate is a library or an archive and not both.
 #![tactic(auto)]
 
@@ -7,6 +7,7 @@ ghost use Rattle.event.specs.Events.{event_of};
 ghost use Rattle.device.specs.Reset.{new_device};
 ghost use Rattle.device.specs.Device.{WellFormed};
 ghost use Rattle.lent.specs.Lent.{Advanced};
+ghost use Rattle.lent.specs.Drain.{Emptied};
 
 use device::Device;
 
@@ -25,4 +26,18 @@ pub extern "C" fn sc16is752_step(chip: &mut Device, kind: u64, x: u64, y: u64, z
     ensures { Advanced chip.old (event_of kind x y z) chip.new result }
 {
     sc16is752::sc16is752_step(chip, kind, x, y, z)
+}
+
+// A receive queue emptied at one go into the lent bytes: how many were put there.
+#[unsafe(no_mangle)]
+pub extern "C" fn sc16is752_drain(
+    chip: &mut Device,
+    channel: u64,
+    most: u64,
+    buffer: &mut [u8],
+) -> usize
+    requires { WellFormed chip.old }
+    ensures { Emptied chip.old channel most buffer.old (record { device = chip.new; count = result }) buffer.new }
+{
+    sc16is752::sc16is752_drain(chip, channel, most, buffer)
 }
