@@ -104,6 +104,8 @@ use Rattle.device.proofs.device.Device.step.Reads as device_step
 use Rattle.device.proofs.device.Device.step_numbers.Reads as device_step_numbers
 use Rattle.device.proofs.device.Device.new.Reads as device_new
 use Rattle.device.proofs.device.Device.reset.Reads as device_reset
+use Rattle.lent.proofs.drain_into.Reads as lent_drain_into
+use Rattle.lent.specs.DrainLaws.{emptied_once}
 use Rattle.run.proofs.cursor.Cursor.new.Reads as run_cursor_new
 use Rattle.run.proofs.cursor.Cursor.fill.Reads as run_cursor_fill
 
@@ -425,6 +427,9 @@ writer_put_event_determined κs a r r' s s' p q = (p.0 ∙ sym q.0, p.1 ∙ sym 
 
 pub sc16is752_event_bytes_determined : (κs : Lfts 1) → DeterminedWith (λ s. s.1.1.1.1.0.now) (sc16is752_event_bytes.Post κs)
 sc16is752_event_bytes_determined κs a r r' s s' p q = (p.0 ∙ sym q.0, p.1 ∙ sym q.1)
+
+pub lent_drain_into_determined : (κs : Lfts 1) → DeterminedWith (λ s. s.0.now) (lent_drain_into.Post κs)
+lent_drain_into_determined κs a r r' s s' p q = emptied_once p q
 
 pub run_cursor_fill_determined : (κs : Lfts 2) → DeterminedWith (λ s. s.1.1.0.now) (run_cursor_fill.Post κs)
 run_cursor_fill_determined κs a r r' s s' p q =

@@ -14,11 +14,8 @@ all_in : {A : Type 0} (make : A → Made) → ((a : A) → MadeIn (make a)) → 
 all_in make each [] = tt
 all_in make each (a ∷ rest) = (each a, all_in make each rest)
 
-pub numbers_in_lem : (numbers : List Numbers) → AllIn (from_numbers numbers)
-numbers_in_lem numbers = all_in made_of (λ n. made_in n.kind n.x n.y n.z) numbers
-
 of_numbers : (numbers : List Numbers) → OfNewDevice (log_of (from_numbers numbers))
-of_numbers numbers = record { range = numbers_in_lem numbers; same = refl }
+of_numbers numbers = record { range = all_in made_of (λ n. made_in n.kind n.x n.y n.z) numbers; same = refl }
 
 of_events : (events : List Event) → OfNewDevice (log_of (from_events events))
 of_events events = record { range = all_in judged_of judged_in events; same = refl }

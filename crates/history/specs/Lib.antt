@@ -9,6 +9,7 @@ pub mod Order
 pub mod Reads
 pub mod Numbers
 pub mod Files
+pub mod Drains
 pub mod Lent
 pub mod Rules
 pub mod Records

@@ -3,7 +3,7 @@ use Rattle.std.specs.Prelude.{ℕ, ◌≡◌, List, map, take}
 use Rattle.queue.specs.declared.Character.{Character}
 use Rattle.history.specs.Judge.{Tally}
 
-abbrev bytes_of : List Character → List ℕ
+abbrev pub bytes_of : List Character → List ℕ
 bytes_of cs = map (λ c. c.byte) cs
 
 -- what was found so far is what was kept, up to the reads counted

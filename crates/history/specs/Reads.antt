@@ -70,12 +70,12 @@ module _ (l : Status) (mark_in : l.mark < 8) where
   lsr_error = rw parts.2 (flag_set l.error)
 
 -- ---- a read goes to the register that its address names
-side_number : (w : Side) → side_numbered (number w) ≡ w
+pub side_number : (w : Side) → side_numbered (number w) ≡ w
 unfolding side_numbered
 side_number side.A = refl
 side_number side.B = refl
 
-channel_read : (ch : Channel) (address : ℕ) (r : Register) → register_at ch.settings address ≡ r
+pub channel_read : (ch : Channel) (address : ℕ) (r : Register) → register_at ch.settings address ≡ r
     → (step_at ch (touch.Read address)).reply ≡ read_of ch r (shown_at ch r)
 unfolding step_at settled_of act_of act_with read_act
 channel_read ch address r named = rw named
