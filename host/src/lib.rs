@@ -1,4 +1,4 @@
-//! The chip of `include/sc16is752.h` for Rust: a record that is lent to the proved step, event by event.
+//! The chip of `include/sc16is752.h` for Rust: a record that is lent to the proved step, event by event, and to the proved drain.
 
 pub mod model;
 pub mod script;
@@ -8,11 +8,13 @@ pub mod wrong;
 const SIZE: usize = 580;
 
 #[repr(C)]
+#[derive(Clone, PartialEq, Eq)]
 struct Record([u8; SIZE]);
 
 extern "C" {
     fn sc16is752_new(chip: *mut Record);
     fn sc16is752_step(chip: *mut Record, kind: u64, x: u64, y: u64, z: u64) -> u32;
+    fn sc16is752_drain(chip: *mut Record, channel: u64, most: u64, buffer: *mut u8, length: usize) -> usize;
 }
 
 /// What an event is answered with: the reply, or document 01's refusal number.
@@ -22,7 +24,9 @@ pub enum Answer {
     Refused(u32),
 }
 
-/// A chip. Only `new` makes a record and only `step` writes it, so it is well formed as the step asks.
+/// A chip. Only `new` makes a record and only `step` and `drain` write it, so it is well formed as they ask.
+/// Two are equal if their records are, byte for byte.
+#[derive(Clone, PartialEq, Eq)]
 pub struct Chip(Box<Record>);
 
 impl Chip {
@@ -40,6 +44,16 @@ impl Chip {
             reply if reply < 512 => Answer::Reply(reply),
             refused => Answer::Refused(refused - 512),
         }
+    }
+
+    /// Reads RHR into the buffer, `most` times at most, until the queue is empty or the buffer full, and hands
+    /// back the filled front part. The channel and `most` may be any numbers at all.
+    pub fn drain<'a>(&mut self, channel: u64, most: u64, buffer: &'a mut [u8]) -> &'a mut [u8] {
+        // As for `step`; and the buffer, of just this length, is lent to this call alone.
+        let length = unsafe {
+            sc16is752_drain(&mut *self.0, channel, most, buffer.as_mut_ptr(), buffer.len())
+        };
+        &mut buffer[..length]
     }
 }
 

@@ -1,5 +1,5 @@
-//! A second model of document 01 and of document 02's requests 01 and 02, written by hand from the documents
-//! alone.
+//! A second model of document 01 and of document 02's requests 01, 02 and 03, written by hand from the
+//! documents alone.
 //!
 //! `Model` is the plain one. `Machine` with a `Wrong` has one rule wrong, with `Before` it is without Xon and
 //! Xoff; the plain model pays nothing for them.
@@ -105,6 +105,7 @@ fn up_to(most: u64, n: u64, refusal: u32) -> Result<u8, u32> {
     if n <= most { Ok(n as u8) } else { Err(refusal) }
 }
 
+#[derive(Clone)]
 struct Channel<S> {
     w: S,
     lcr: u8,
@@ -744,6 +745,101 @@ impl<S: Switch> Channel<S> {
         self.take().unwrap_or(w.pick(0, EmptyReadsFf, 0xFF))
     }
 
+    /// "reads RHR into a lent buffer ..., and hands back the filled front part ... Device and part equal as many
+    /// single reads as the part is long, ...; later bytes stay." Says how long the part is.
+    fn drain(&mut self, most: u64, buffer: &mut [u8]) -> usize {
+        let w = self.w;
+        let reads = self.reads(most, buffer.len());
+        let (quiet, marked, latch) = (self.quiet, self.marked, self.latch);
+        let (second, waiting) = (self.second, self.waiting);
+        for (at, place) in buffer[..reads].iter_mut().enumerate() {
+            let byte = if w.has(DrainClosed) {
+                self.event(|c| u32::from(c.read(0))) as u8
+            } else if w.has(DrainSettlesFirst) && at != 0 {
+                self.read_rhr()
+            } else {
+                self.event(|c| u32::from(c.read_rhr())) as u8
+            };
+            *place = w.pick(byte, DrainCuts, self.cut(byte));
+        }
+        if reads != 0 {
+            self.quiet = w.pick(self.quiet, DrainKeepsQuiet, quiet);
+            self.marked = w.pick(self.marked, DrainKeepsMarks, marked);
+            self.latch = w.pick(self.latch, DrainKeepsLatch, latch);
+            self.overrun &= !w.has(DrainClearsOverrun);
+            if w.has(DrainKeepsSecond) {
+                (self.second, self.waiting) = (second, waiting);
+            }
+            if w.has(DrainPutsXon) && self.second {
+                self.waiting = self.sent().map(|pair| self.put(pair, true));
+            }
+            if w.has(DrainRestLost) || w.has(DrainNoRoomLost) && reads == buffer.len() {
+                self.clear_received();
+            }
+        } else if w.has(DrainZeroQuiet) && most == 0
+            || w.has(DrainNoRoomQuiet) && buffer.is_empty()
+            || w.has(DrainClosedQuiet) && bit(self.lcr, 7)
+        {
+            self.quiet = 0;
+        }
+        if w.has(DrainTurned) {
+            buffer[..reads].reverse();
+        }
+        if let Some(behind) = buffer.get_mut(reads) {
+            *behind = w.pick(*behind, DrainEnds, 0);
+        }
+        if w.has(DrainFills) {
+            buffer[reads..].fill(0);
+        }
+        reads
+    }
+
+    /// "up to a stated number of times, until the queue is empty or the buffer full"; "With LCR 7 set ... the
+    /// part is empty".
+    fn reads(&self, most: u64, room: usize) -> usize {
+        let w = self.w;
+        if bit(self.lcr, 7)
+            && !(w.has(DrainAnyWindow) || w.has(DrainClosed))
+            && !w.has(if self.lcr == 0xBF { DrainEnhanced } else { DrainDivisor })
+        {
+            return 0;
+        }
+        // Wrong conditions: the request has none of these.
+        if w.has(DrainByTimeout) && self.quiet < QUIET
+            || w.has(DrainByIer) && !bit(self.ier, 0)
+            || w.has(DrainByFifo) && !bit(self.fcr, 0)
+            || w.has(DrainByReceiver) && bit(self.efcr, 1)
+        {
+            return 0;
+        }
+        let most = w.pick(most, DrainMostByte, most & 0xFF);
+        let most = w.pick(most, DrainMostCut, most & 0xFFFF_FFFF);
+        let most = w.pick(most, DrainMostIgnored, u64::MAX);
+        let most = w.pick(most, DrainMostPast, most.saturating_add(1));
+        let most = w.pick(most, DrainMostShort, most.saturating_sub(1));
+        let most = w.pick(most, DrainMostSigned, if most > i64::MAX as u64 { 0 } else { most });
+        let most = w.pick(most, DrainMostZero, if most == 0 { u64::MAX } else { most });
+        let room = w.pick(room, DrainRoomByte, room & 0xFF);
+        let room = w.pick(room, DrainRoomShort, room.saturating_sub(1));
+        most.min(self.queued() as u64).min(room as u64) as usize
+    }
+
+    /// How many characters there are for a drain: "none of an empty queue".
+    fn queued(&self) -> usize {
+        let w = self.w;
+        let count = self.received.len();
+        let until = |wrong, stops: fn(&(u8, u8)) -> bool| {
+            let at = if w.has(wrong) { self.received.iter().position(stops) } else { None };
+            at.unwrap_or(count)
+        };
+        let count = until(DrainToZero, |&(byte, _)| byte == 0).min(until(DrainToMark, |&(_, mark)| mark != 0));
+        let count = w.pick(count, DrainToLevel, (count + 1).saturating_sub(self.receive_level()));
+        let count = w.pick(count, DrainLeavesLast, count.saturating_sub(1));
+        let count = w.pick(count, DrainPastLast, count + usize::from(count != 0));
+        let count = w.pick(count, DrainEmpty, count.max(1));
+        w.pick(count, DrainPastEmpty, usize::MAX)
+    }
+
     fn lsr(&self) -> u8 {
         let w = self.w;
         let shown = w.pick(self.received.front(), LsrNewest, self.received.back());
@@ -1072,6 +1168,7 @@ impl<S: Switch> Channel<S> {
 }
 
 /// The device: two channels.
+#[derive(Clone)]
 pub struct Machine<S> {
     w: S,
     channels: [Channel<S>; 2],
@@ -1164,6 +1261,23 @@ impl<S: Switch> Machine<S> {
         }
     }
 
+    /// "a call that reads RHR into a lent buffer, ... and hands back the filled front part of the caller's own
+    /// buffer"
+    pub fn drain<'a>(&mut self, channel: u64, most: u64, buffer: &'a mut [u8]) -> &'a mut [u8] {
+        let w = self.w;
+        let channel = w.pick(channel, DrainChannelByte, channel & 0xFF);
+        let channel = w.pick(channel, DrainChannelCut, channel & 0xFFFF_FFFF);
+        let channel = w.pick(channel, DrainChannelOdd, channel & 1);
+        let channel = w.pick(channel, DrainChannelHigh, channel.min(1));
+        let channel = w.pick(channel, DrainChannelZero, channel.saturating_sub(1));
+        // "With ... a channel above 1, the part is empty and nothing changes."
+        let reads = match up_to(1, channel, 4) {
+            Ok(channel) => self.channels[usize::from(channel)].drain(most, buffer),
+            Err(_) => 0,
+        };
+        &mut buffer[..reads]
+    }
+
     fn write(&mut self, channel: usize, address: u8, byte: u8) -> u32 {
         let w = self.w;
         let c = &mut self.channels[channel];
@@ -1217,7 +1331,10 @@ mod tests {
     use super::*;
 
     fn replies(events: &[[u64; 4]]) -> Vec<u32> {
-        let mut model = Model::new();
+        replies_of(&mut Model::new(), events)
+    }
+
+    fn replies_of(model: &mut Model, events: &[[u64; 4]]) -> Vec<u32> {
         let answers = events.iter().map(|&[kind, x, y, z]| model.step(kind, x, y, z));
         answers
             .map(|answer| match answer {
@@ -1283,9 +1400,9 @@ mod tests {
         [2, 0, byte, 0]
     }
 
-    /// The replies with an EFR, Xon and Xoff in both pairs (the second with bit 5 set), IER 5 and 8 bits.
-    fn with_efr(efr: u64, events: &[[u64; 4]]) -> Vec<u32> {
-        let setup = [
+    /// An EFR, Xon and Xoff in both pairs (the second with bit 5 set), IER 5 and 8 bits.
+    fn setup(efr: u64) -> [[u64; 4]; 9] {
+        [
             [0, 0, 3, 0xBF],
             [0, 0, 4, XON],
             [0, 0, 5, XON | 0x20],
@@ -1295,7 +1412,12 @@ mod tests {
             [0, 0, 3, 3],
             [0, 0, 1, 0x20],
             [0, 0, 2, 1],
-        ];
+        ]
+    }
+
+    /// The replies after that.
+    fn with_efr(efr: u64, events: &[[u64; 4]]) -> Vec<u32> {
+        let setup = setup(efr);
         replies(&[&setup[..], events].concat())[setup.len()..].to_vec()
     }
 
@@ -1396,5 +1518,89 @@ mod tests {
             model.step(kind, x, y, z);
         }
         assert_eq!(model.step(2, 0, 0, 0), Answer::Reply(KEPT));
+    }
+
+    const QUIET_TIME: [u64; 4] = [5, 0, 0, 0];
+    const TELEGRAM: &[u8] = b"/ISk5";
+
+    /// A telegram in the queue and the timeout interrupt, which no IIR read has seen yet.
+    fn telegram() -> Model {
+        let mut model = Model::new();
+        let arrivals: Vec<_> = TELEGRAM.iter().map(|&byte| arrival(u64::from(byte))).collect();
+        let setup = [[0, 0, 3, 3], [0, 0, 2, 1], [0, 0, 1, 1]];
+        replies_of(&mut model, &[&setup[..], &arrivals, &[QUIET_TIME; 4]].concat());
+        model
+    }
+
+    /// The part that a drain hands back. The buffer behind it must be as it was.
+    fn drained(model: &mut Model, channel: u64, most: u64, length: usize) -> Vec<u8> {
+        let mut buffer = vec![0xEE; length];
+        let part = model.drain(channel, most, &mut buffer).to_vec();
+        assert!(buffer[part.len()..].iter().all(|&byte| byte == 0xEE));
+        part
+    }
+
+    #[test]
+    fn a_telegram_at_one_go() {
+        let mut model = telegram();
+        assert_eq!(replies_of(&mut model, &[IIR]), [0xCC]);
+        assert_eq!(drained(&mut model, 0, u64::MAX, 64), TELEGRAM);
+        assert_eq!(replies_of(&mut model, &[IIR, LSR, RHR]), [0xC1, 0x60, 0]);
+        assert_eq!(drained(&mut model, 0, u64::MAX, 64), []);
+    }
+
+    #[test]
+    fn the_least_of_three() {
+        let part = |most, length| drained(&mut telegram(), 0, most, length);
+        assert_eq!(part(5, 5), TELEGRAM);
+        assert_eq!(part(4, 5), TELEGRAM[..4]);
+        assert_eq!(part(5, 4), TELEGRAM[..4]);
+        assert_eq!(part(1 << 32 | 1, 6), TELEGRAM);
+        // What isn't read stays, and its quiet count is 0.
+        let mut model = telegram();
+        assert_eq!(drained(&mut model, 0, 3, 64), TELEGRAM[..3]);
+        assert_eq!(replies_of(&mut model, &[IIR, [1, 0, 9, 0], RHR]), [0xC1, 2, u32::from(TELEGRAM[3])]);
+    }
+
+    #[test]
+    fn a_drain_of_nothing_changes_nothing() {
+        let mut model = telegram();
+        assert_eq!(drained(&mut model, 0, 0, 64), []);
+        assert_eq!(drained(&mut model, 0, 64, 0), []);
+        for channel in [1, 2, 3, 256, 257, 1 << 32, 1 << 32 | 1, u64::MAX] {
+            assert_eq!(drained(&mut model, channel, 64, 64), []);
+        }
+        for lcr in [0x80, 0x83, 0xBF, 0xFF] {
+            replies_of(&mut model, &[[0, 0, 3, lcr]]);
+            assert_eq!(drained(&mut model, 0, 64, 64), []);
+        }
+        assert_eq!(replies_of(&mut model, &[[0, 0, 3, 3], IIR]), [0, 0xCC]);
+        assert_eq!(drained(&mut model, 0, 64, 64), TELEGRAM);
+    }
+
+    #[test]
+    fn a_drain_takes_marks_and_leaves_overrun() {
+        let mut model = telegram();
+        replies_of(&mut model, &[[2, 0, 0x41, 2]]);
+        replies_of(&mut model, &[arrival(0x42); 59]);
+        assert_eq!(drained(&mut model, 0, 6, 64).len(), 6);
+        assert_eq!(replies_of(&mut model, &[LSR]), [0x63]);
+    }
+
+    #[test]
+    fn a_drain_turns_the_latches() {
+        // EFR 6, and EFR 3:2 that send: halted at 4, resumed at 0.
+        let halted = || {
+            let mut model = Model::new();
+            replies_of(&mut model, &[&setup(0x48)[..], &LEVELS, &[arrival(0x41); 4]].concat());
+            model
+        };
+        const RTS: [u64; 4] = [8, 0, 0, 0];
+        let mut model = halted();
+        assert_eq!(drained(&mut model, 0, 3, 64), [0x41; 3]);
+        assert_eq!(replies_of(&mut model, &[RTS, SLOT, SLOT]), [0, 256, XOFF as u32]);
+        let mut model = halted();
+        assert_eq!(drained(&mut model, 0, 4, 64), [0x41; 4]);
+        assert_eq!(replies_of(&mut model, &[RTS, LSR, SLOT, SLOT, LSR]), [1, 0x20, 256, XON as u32, 0x60]);
     }
 }

@@ -12,6 +12,21 @@ pub const RESET: u64 = 6;
 pub const IRQ_LOOK: u64 = 7;
 pub const RTS_LOOK: u64 = 8;
 
+/// A call of a history.
+#[derive(Clone, Copy, Debug)]
+pub enum Call {
+    Step(Event),
+    Drain(Drain),
+}
+
+/// A drain of a channel by so many reads at most, into a buffer of such a length.
+#[derive(Clone, Copy, Debug)]
+pub struct Drain {
+    pub channel: u64,
+    pub most: u64,
+    pub length: usize,
+}
+
 /// What a stretch of a history is about.
 #[derive(Clone, Copy)]
 enum Mood {
@@ -32,9 +47,10 @@ enum Mood {
     Audit,
     Xoff,
     Sent,
+    Telegram,
 }
 
-const MOODS: [Mood; 17] = [
+const MOODS: [Mood; 18] = [
     Mood::Fiddle,
     Mood::Receive,
     Mood::Transmit,
@@ -52,13 +68,14 @@ const MOODS: [Mood; 17] = [
     Mood::Audit,
     Mood::Xoff,
     Mood::Sent,
+    Mood::Telegram,
 ];
 
-/// Makes the events of a history, a stretch at a time.
+/// Makes the calls of a history, a stretch at a time.
 pub struct Script {
     random: Random,
     moods: Vec<Mood>,
-    events: VecDeque<Event>,
+    calls: VecDeque<Call>,
 }
 
 impl Script {
@@ -66,15 +83,15 @@ impl Script {
         let mut random = Random::new(seed);
         let moods =
             (0..2 + random.below(4)).map(|_| MOODS[random.below(MOODS.len() as u64) as usize]).collect();
-        Script { random, moods, events: VecDeque::new() }
+        Script { random, moods, calls: VecDeque::new() }
     }
 
-    pub fn next(&mut self) -> Event {
-        // A stray event now and then, in the middle of a stretch as well.
+    pub fn next(&mut self) -> Call {
+        // A stray call now and then, in the middle of a stretch as well.
         if self.random.once_in(60) {
-            return self.any();
+            return if self.random.once_in(4) { Call::Drain(self.any_drain()) } else { Call::Step(self.any()) };
         }
-        while self.events.is_empty() {
+        while self.calls.is_empty() {
             let mood = if self.random.once_in(4) {
                 MOODS[self.random.below(MOODS.len() as u64) as usize]
             } else {
@@ -83,7 +100,7 @@ impl Script {
             let channel = self.random.below(2);
             self.stretch(mood, channel);
         }
-        self.events.pop_front().unwrap()
+        self.calls.pop_front().unwrap()
     }
 
     pub fn below(&mut self, bound: u64) -> u64 {
@@ -91,11 +108,11 @@ impl Script {
     }
 
     /// What a history ends with: a look into everything that no answer has shown yet.
-    pub fn last_looks(&mut self) -> VecDeque<Event> {
-        self.events.clear();
+    pub fn last_looks(&mut self) -> VecDeque<Call> {
+        self.calls.clear();
         self.audit(0);
         self.audit(1);
-        std::mem::take(&mut self.events)
+        std::mem::take(&mut self.calls)
     }
 
     fn one_of(&mut self, values: &[u64]) -> u64 {
@@ -131,8 +148,62 @@ impl Script {
         }
     }
 
+    /// Any drain, also of a channel that there isn't.
+    pub fn any_drain(&mut self) -> Drain {
+        let channel = match self.below(8) {
+            0 => self.one_of(&[2, 3, 256, 257, 1 << 32, 1 << 32 | 1, u64::MAX]),
+            1 => self.random.next(),
+            _ => self.below(2),
+        };
+        Drain { channel, most: self.most(), length: self.length() }
+    }
+
+    /// Any drain, now and then with a burst of arrivals before it.
+    pub fn burst_and_drain(&mut self) -> Vec<Call> {
+        let drain = self.any_drain();
+        let mut calls = Vec::new();
+        if self.random.once_in(4) {
+            for _ in 0..self.below(70) {
+                calls.push(Call::Step([ARRIVAL, drain.channel, self.byte(), self.mark()]));
+            }
+        }
+        calls.push(Call::Drain(drain));
+        calls
+    }
+
+    /// How many reads a drain may make: plenty, few, none, and numbers that are few or none once they are cut.
+    fn most(&mut self) -> u64 {
+        match self.below(8) {
+            0..=2 => self.one_of(&[64, 65, 1000, u64::MAX]),
+            3..=5 => self.below(70),
+            6 => self.below(70) | 1 << (8 + self.below(56)),
+            _ => self.one_of(&[0, 0, 1, 1 << 32, 1 << 63, u64::MAX - 1]),
+        }
+    }
+
+    /// How long a buffer is.
+    fn length(&mut self) -> usize {
+        let length = match self.below(6) {
+            0 | 1 => self.below(70),
+            2 => self.one_of(&[0, 1, 63, 65]),
+            3 => self.one_of(&[256, 257, 300]),
+            _ => 64,
+        };
+        length as usize
+    }
+
     fn push(&mut self, event: Event) {
-        self.events.push_back(event);
+        self.calls.push_back(Call::Step(event));
+    }
+
+    fn drain(&mut self, channel: u64, most: u64, length: usize) {
+        self.calls.push_back(Call::Drain(Drain { channel, most, length }));
+    }
+
+    /// Some drain, mostly of this channel.
+    fn some_drain(&mut self, channel: u64) {
+        let drain = self.any_drain();
+        self.drain(if drain.channel < 2 { channel } else { drain.channel }, drain.most, drain.length);
     }
 
     fn write(&mut self, channel: u64, address: u64, byte: u64) {
@@ -322,6 +393,7 @@ impl Script {
                         self.push([QUIET, channel, 0, 0]);
                     }
                 }
+                8 if self.random.once_in(2) => self.some_drain(channel),
                 8 => self.read(channel, 0),
                 9 => self.glance(channel),
                 10 => self.rewrite(channel, efr, word),
@@ -348,14 +420,17 @@ impl Script {
             self.enhanced(channel, 2, efr, word);
         }
         for _ in 0..self.below(30) {
-            let (moved, up) = (self.below(8), self.random.once_in(2));
+            let (moved, up, at_one_go) = (self.below(8), self.random.once_in(2), self.random.once_in(2));
             for _ in 0..moved {
                 if up {
                     let byte = self.below(256);
                     self.push([ARRIVAL, channel, byte, 1]);
-                } else {
+                } else if !at_one_go {
                     self.read(channel, 0);
                 }
+            }
+            if !up && at_one_go {
+                self.drain(channel, moved, 64);
             }
             for _ in 0..self.below(4) {
                 match self.below(9) {
@@ -380,12 +455,67 @@ impl Script {
         }
     }
 
+    /// Meter telegrams, taken at one go, mostly after the timeout interrupt.
+    fn telegram(&mut self, channel: u64) {
+        self.general(channel);
+        self.write(channel, 15, 0);
+        let ier = self.one_of(&[0x01, 0x01, 0x01, 0x05, 0x00]);
+        self.write(channel, 1, ier);
+        let fcr = self.one_of(&[0x01, 0x01, 0x41, 0xC3, 0x00]);
+        self.write(channel, 2, fcr);
+        for _ in 0..1 + self.below(6) {
+            let marks = self.random.once_in(2);
+            for _ in 0..self.one_of(&[1, 5, 20, 62, 64, 66]) {
+                let byte = if self.random.once_in(30) { 0 } else { self.below(256) };
+                let mark = if marks && self.random.once_in(10) { self.mark() } else { 0 };
+                self.push([ARRIVAL, channel, byte, mark]);
+            }
+            for _ in 0..self.one_of(&[4, 4, 4, 5, 3, 0]) {
+                self.push([QUIET, channel, 0, 0]);
+            }
+            if self.random.once_in(2) {
+                self.read(channel, 2);
+            }
+            for _ in 0..1 + self.below(3) {
+                self.at_one_go(channel);
+            }
+        }
+    }
+
+    /// A drain, at times in a window where RHR is closed or with the receiver off, and a look at what it leaves.
+    fn at_one_go(&mut self, channel: u64) {
+        let (closed, off) = (self.random.once_in(6), self.random.once_in(8));
+        if closed {
+            let lcr = if self.random.once_in(2) { 0xBF } else { 0x80 | self.below(128) };
+            self.write(channel, 3, lcr);
+        } else if off {
+            self.write(channel, 15, 2);
+        } else if self.random.once_in(4) {
+            self.general(channel);
+        }
+        self.some_drain(channel);
+        if closed {
+            self.general(channel);
+        } else if off {
+            self.write(channel, 15, 0);
+        }
+        match self.below(6) {
+            0 | 1 => self.read(channel, 2),
+            2 => self.read(channel, 5),
+            3 => self.read(channel, 0),
+            _ => self.glance(channel),
+        }
+    }
+
     fn stretch(&mut self, mood: Mood, channel: u64) {
         match mood {
             Mood::Fiddle => {
                 for _ in 0..self.below(40) {
                     let event = self.any();
                     self.push(event);
+                    if self.random.once_in(12) {
+                        self.some_drain(channel);
+                    }
                     if self.random.once_in(8) {
                         self.general(channel);
                     }
@@ -408,8 +538,13 @@ impl Script {
                         self.glance(channel);
                     }
                 }
-                for _ in 0..self.one_of(&[0, 1, 10, 40, 70]) {
-                    self.read(channel, 0);
+                let at_one_go = self.random.once_in(3);
+                for _ in 0..self.one_of(if at_one_go { &[1, 2, 3] } else { &[0, 1, 10, 40, 70] }) {
+                    if at_one_go {
+                        self.some_drain(channel);
+                    } else {
+                        self.read(channel, 0);
+                    }
                     if self.random.once_in(4) {
                         self.glance(channel);
                     }
@@ -523,7 +658,13 @@ impl Script {
                     self.push([RTS_LOOK, channel, 0, 0]);
                 }
                 for _ in 0..1 + self.below(4) {
-                    let down = self.below(rise + 2);
+                    let mut down = self.below(rise + 2);
+                    if self.random.once_in(2) {
+                        let at_one_go = self.below(down + 1);
+                        self.drain(channel, at_one_go, 64);
+                        self.push([RTS_LOOK, channel, 0, 0]);
+                        down -= at_one_go;
+                    }
                     for _ in 0..down {
                         self.read(channel, 0);
                         self.push([RTS_LOOK, channel, 0, 0]);
@@ -591,6 +732,7 @@ impl Script {
                             self.arrival(channel);
                         }
                         3 => self.fcr(channel),
+                        4 => self.some_drain(channel),
                         _ => {}
                     }
                     self.read(channel, 2);
@@ -652,6 +794,7 @@ impl Script {
                                 self.push([QUIET, channel, 0, 0]);
                             }
                         }
+                        8 if self.random.once_in(2) => self.some_drain(channel),
                         8 => self.read(channel, 0),
                         9 => {
                             // A special character, if EFR 5 lets it.
@@ -781,6 +924,9 @@ impl Script {
                             self.write(channel, address, byte);
                         }
                         self.read(channel, address);
+                        if self.random.once_in(12) {
+                            self.some_drain(channel);
+                        }
                     }
                     self.read(channel, 3);
                 }
@@ -802,11 +948,15 @@ impl Script {
                         };
                     }
                     self.push(event);
+                    if self.random.once_in(6) {
+                        self.some_drain(channel);
+                    }
                 }
             }
             Mood::Audit => self.audit(channel),
             Mood::Xoff => self.xoff(channel),
             Mood::Sent => self.sent(channel),
+            Mood::Telegram => self.telegram(channel),
         }
     }
 

@@ -1,9 +1,10 @@
 //! Small wrong changes of the second model: each takes one rule of the documents and has it wrong once.
 //!
-//! Left out, since no event can tell them from the right rule:
+//! Left out, since no event and no drain can tell them from the right rule:
 //! - FCR 3, 2 or 1 stored: FCR is never read and nothing acts on those bits.
-//! - The quiet count left alone by a receive clear, a reset, or a read of an empty queue: the queue is
-//!   empty then, and the arrival that fills it makes the count 0 before it is looked at again.
+//! - The quiet count left alone by a receive clear, a reset, or a read of an empty queue, or made 0 by a drain
+//!   of one: the queue is empty then, and the arrival that fills it makes the count 0 before it is looked at
+//!   again.
 //! - The quiet count stopping above 4, if 4 and above count as 4.
 //! - The latch left off by a reset: EFR is behind a write of LCR, which finds EFR 6 clear and asserts it.
 //! - Looks and reads of closed addresses run through the latch and the flags: a second run changes nothing.
@@ -12,6 +13,12 @@
 //! - MCR 5 resuming only while EFR 1:0 compares: else nothing is stopped.
 //! - The second latch stepped before the act, before the first latch or after the flags: that latch and the
 //!   flags don't look at it or at what it puts, and nothing happens between an event and the next act.
+//! - The latches stepped once, after a drain's last read: before the first they stand as the count asks, and
+//!   as it falls a latch turns once at most, to on.
+//! - The latches stepped by a drain that reads nothing: a second step changes nothing.
+//! - The flags left alone by a drain: RTS goes off by no read, and the THR condition doesn't look at what is
+//!   received.
+//! - One character at most drained without FCR 0: no more are queued then.
 use crate::model::Switch;
 
 macro_rules! wrongs {
@@ -322,4 +329,50 @@ wrongs! {
     ResetKeepsStop: "reset doesn't resume",
     ResetKeepsWaiting: "reset keeps what waits",
     ResetKeepsSecond: "reset leaves the second latch",
+    // Drains.
+    DrainChannelByte: "a drain's channel is cut to 8 bits",
+    DrainChannelCut: "a drain's channel is cut to 32 bits",
+    DrainChannelOdd: "a drain's channel is cut to 1 bit",
+    DrainChannelHigh: "a drain of a channel above 1 is one of channel 1",
+    DrainChannelZero: "a drain's channels are counted from 1, and 0 is taken for 1",
+    DrainAnyWindow: "a drain reads the queue with LCR 7 set, too",
+    DrainEnhanced: "a drain reads the queue with LCR BF",
+    DrainDivisor: "a drain reads the queue with LCR 7 set but for BF",
+    DrainClosed: "with LCR 7 set a drain gives what address 0 reads there",
+    DrainClosedQuiet: "a drain with LCR 7 set makes the quiet count 0",
+    DrainByTimeout: "a drain reads only at a quiet count of 4",
+    DrainByIer: "a drain reads only with IER 0",
+    DrainByFifo: "a drain reads only with FCR 0",
+    DrainByReceiver: "a drain reads nothing from a disabled receiver",
+    DrainMostByte: "the number of reads is cut to 8 bits",
+    DrainMostCut: "the number of reads is cut to 32 bits",
+    DrainMostSigned: "a number of reads with its top bit set is none",
+    DrainMostZero: "a number of reads of 0 is no bound",
+    DrainMostIgnored: "a drain doesn't heed the number of reads",
+    DrainMostPast: "a drain makes one read more than the number",
+    DrainMostShort: "a drain makes one read less than the number",
+    DrainZeroQuiet: "a drain up to 0 times makes the quiet count 0",
+    DrainRoomByte: "the length of the buffer is cut to 8 bits",
+    DrainRoomShort: "a drain leaves the last place of the buffer",
+    DrainNoRoomQuiet: "a drain into an empty buffer makes the quiet count 0",
+    DrainNoRoomLost: "what the buffer has no room for is lost",
+    DrainRestLost: "what a drain leaves is lost",
+    DrainEmpty: "a drain reads an empty queue once",
+    DrainPastLast: "a drain reads once more behind the last character",
+    DrainPastEmpty: "a drain reads on where the queue is empty",
+    DrainLeavesLast: "a drain leaves the last character queued",
+    DrainToLevel: "a drain reads only while the receive level is reached",
+    DrainToZero: "a drain stops at a character 0",
+    DrainToMark: "a drain stops at a character with a mark",
+    DrainCuts: "a drain cuts what it reads to the word length",
+    DrainTurned: "a drain puts the newest first",
+    DrainEnds: "the byte behind the part becomes 0",
+    DrainFills: "the buffer behind the part becomes 0",
+    DrainKeepsQuiet: "a drain leaves the quiet count",
+    DrainKeepsMarks: "LSR 7 stays when a drain takes the last mark",
+    DrainClearsOverrun: "a drain clears overrun",
+    DrainKeepsLatch: "a drain leaves the auto-RTS latch",
+    DrainKeepsSecond: "a drain leaves the second latch",
+    DrainSettlesFirst: "the latches are stepped after a drain's first read only",
+    DrainPutsXon: "a drain puts Xon while the second latch stays on",
 }

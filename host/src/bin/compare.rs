@@ -1,4 +1,5 @@
-//! Runs random histories through the proved chip and the second model, and compares every answer.
+//! Runs random histories through the proved chip and the second model, and compares every answer and every buffer
+//! that a drain is lent.
 //!
 //! usage: compare SEED HISTORIES [LENGTH]
 //!        compare --wrong SEED HISTORIES [LENGTH]
@@ -8,38 +9,65 @@
 //! tells from the chip are named. With --before EFR 3:0 stay clear in every history, and the chip is compared
 //! with the second model without Xon and Xoff.
 use host::model::{Before, Machine, Right, Switch};
-use host::script::{Script, IRQ_LOOK, READ, RTS_LOOK, WRITE};
+use host::script::{Call, Drain, Script, IRQ_LOOK, READ, RTS_LOOK, WRITE};
 use host::{wrong, Answer, Chip, Event};
 
-/// A chip and a model side by side, with the events they had.
+/// What a call comes to.
+#[derive(PartialEq, Eq)]
+enum Outcome {
+    Step(Answer),
+    /// How long the part is, and the whole buffer.
+    Drain(usize, Vec<u8>),
+}
+
+/// A chip and a model side by side, with the calls they had.
 struct Pair<S> {
     switch: S,
     chip: Chip,
     model: Machine<S>,
-    past: Vec<(Event, Answer)>,
+    past: Vec<(Call, Outcome)>,
 }
 
 /// Where the two part, and what the model says there.
 struct Difference {
-    past: Vec<(Event, Answer)>,
-    model: Answer,
+    past: Vec<(Call, Outcome)>,
+    model: Outcome,
+}
+
+/// What a drain leaves of a buffer in which no byte is like its neighbours.
+fn drained(length: usize, drain: impl FnOnce(&mut [u8]) -> &mut [u8]) -> Outcome {
+    let mut buffer: Vec<u8> = (0..length).map(|at| 0xA5 ^ at as u8).collect();
+    let part = drain(&mut buffer).len();
+    Outcome::Drain(part, buffer)
 }
 
 impl<S: Switch> Pair<S> {
-    fn step(&mut self, event: Event) -> Result<(), Answer> {
-        let [kind, x, y, mut z] = event;
-        if !self.switch.xon_xoff() && kind == WRITE && y == 2 && self.model.efr_open(x) {
-            z &= !0x0F;
-        }
-        let event = [kind, x, y, z];
-        let chip = self.chip.step(kind, x, y, z);
-        let model = self.model.step(kind, x, y, z);
-        self.past.push((event, chip));
-        if chip == model { Ok(()) } else { Err(model) }
+    fn step(&mut self, event: Event) -> Result<(), Outcome> {
+        self.call(Call::Step(event))
+    }
+
+    fn call(&mut self, call: Call) -> Result<(), Outcome> {
+        let (call, chip, model) = match call {
+            Call::Step([kind, x, y, mut z]) => {
+                if !self.switch.xon_xoff() && kind == WRITE && y == 2 && self.model.efr_open(x) {
+                    z &= !0x0F;
+                }
+                let (chip, model) = (self.chip.step(kind, x, y, z), self.model.step(kind, x, y, z));
+                (Call::Step([kind, x, y, z]), Outcome::Step(chip), Outcome::Step(model))
+            }
+            Call::Drain(Drain { channel, most, length }) => {
+                let chip = drained(length, |buffer| self.chip.drain(channel, most, buffer));
+                let model = drained(length, |buffer| self.model.drain(channel, most, buffer));
+                (call, chip, model)
+            }
+        };
+        let same = chip == model;
+        self.past.push((call, chip));
+        if same { Ok(()) } else { Err(model) }
     }
 
     /// Every read and look that changes nothing.
-    fn sweep(&mut self) -> Result<(), Answer> {
+    fn sweep(&mut self) -> Result<(), Outcome> {
         self.step([IRQ_LOOK, 0, 0, 0])?;
         for channel in 0..2 {
             self.step([RTS_LOOK, channel, 0, 0])?;
@@ -50,7 +78,7 @@ impl<S: Switch> Pair<S> {
         Ok(())
     }
 
-    fn history(&mut self, seed: u64, length: Option<usize>) -> Result<(), Answer> {
+    fn history(&mut self, seed: u64, length: Option<usize>) -> Result<(), Outcome> {
         let mut script = Script::new(seed);
         let length = length.unwrap_or_else(|| match script.below(8) {
             0..=2 => 20 + script.below(200) as usize,
@@ -59,53 +87,66 @@ impl<S: Switch> Pair<S> {
         });
         let sweeps = [20, 100, 1000][script.below(3) as usize];
         while self.past.len() < length {
-            let event = script.next();
-            self.step(event)?;
+            self.call(script.next())?;
             if script.below(sweeps) == 0 {
                 self.sweep()?;
             }
         }
-        for event in script.last_looks() {
-            self.step(event)?;
+        for call in script.last_looks() {
+            self.call(call)?;
         }
         self.sweep()
     }
 }
 
-/// One history: how many answers were the same, or where they part.
-fn compare<S: Switch>(switch: S, seed: u64, length: Option<usize>) -> Result<usize, Difference> {
+/// How many answers were the same, and how many of them were drains.
+#[derive(Default)]
+struct Count {
+    answers: usize,
+    drains: usize,
+}
+
+/// One history: what was the same, or where they part.
+fn compare<S: Switch>(switch: S, seed: u64, length: Option<usize>) -> Result<Count, Difference> {
     let mut pair = Pair { switch, chip: Chip::new(), model: Machine::with(switch), past: Vec::new() };
     match pair.history(seed, length) {
-        Ok(()) => Ok(pair.past.len()),
+        Ok(()) => {
+            let drains = pair.past.iter().filter(|(call, _)| matches!(call, Call::Drain(_))).count();
+            Ok(Count { answers: pair.past.len(), drains })
+        }
         Err(model) => Err(Difference { past: pair.past, model }),
     }
 }
 
-fn show(answer: Answer) -> String {
-    match answer {
-        Answer::Reply(n) => format!("OK {n} ({n:02X})"),
-        Answer::Refused(n) => format!("REFUSED {n}"),
+fn show(outcome: &Outcome) -> String {
+    match outcome {
+        Outcome::Step(Answer::Reply(n)) => format!("OK {n} ({n:02X})"),
+        Outcome::Step(Answer::Refused(n)) => format!("REFUSED {n}"),
+        Outcome::Drain(part, buffer) => format!("{part} of {buffer:02X?}"),
     }
 }
 
 fn report(seed: u64, difference: &Difference) {
     let index = difference.past.len() - 1;
-    let (event, chip) = difference.past[index];
+    let (call, chip) = &difference.past[index];
     println!(
-        "compare: seed {seed}: event {index} {event:X?}: the chip says {}, the model {}",
+        "compare: seed {seed}: call {index} {call:X?}: the chip says {}, the model {}",
         show(chip),
-        show(difference.model)
+        show(&difference.model)
     );
-    for (at, (event, answer)) in difference.past.iter().enumerate().skip(index.saturating_sub(12)) {
-        println!("  {at} {event:X?} {}", show(*answer));
+    for (at, (call, outcome)) in difference.past.iter().enumerate().skip(index.saturating_sub(12)) {
+        println!("  {at} {call:X?} {}", show(outcome));
     }
 }
 
 fn all_same<S: Switch>(switch: S, seed: u64, histories: u64, length: Option<usize>) {
-    let mut compared = 0;
+    let mut same = Count::default();
     for seed in seed..seed + histories {
         match compare(switch, seed, length) {
-            Ok(answers) => compared += answers,
+            Ok(count) => {
+                same.answers += count.answers;
+                same.drains += count.drains;
+            }
             Err(difference) => {
                 report(seed, &difference);
                 std::process::exit(1);
@@ -113,7 +154,8 @@ fn all_same<S: Switch>(switch: S, seed: u64, histories: u64, length: Option<usiz
         }
     }
     let with = if switch.xon_xoff() { "" } else { " with EFR 3:0 clear and a model without Xon and Xoff" };
-    println!("compare: {histories} histories, {compared} answers{with}, all the same");
+    let Count { answers, drains } = same;
+    println!("compare: {histories} histories{with}, {answers} answers, {drains} of them drains, all the same");
 }
 
 fn wrong_ones(seed: u64, histories: u64, length: Option<usize>) {
