@@ -12,6 +12,7 @@
  *   do. buffer has no byte of the record.
  * - While a call runs, nothing else touches its record, its bytes or its buffer: one thread at a time, and no signal handler
  *   between.
+ * - The program has memcpy, its own or a C library's. The archives ask for nothing else from outside.
  *
  * In return, each record, each byte and each answer is exactly what the document's rules say of the record before and the
  * event or drain, and the record is well formed again. The functions keep no other state, allocate nothing and do not fail.

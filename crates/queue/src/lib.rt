@@ -150,14 +150,26 @@ impl Queue {
         false
     }
 
-    // The queue by value after what becomes of it.
+    // The queue by value after what becomes of it. It doesn't go by `settle`: the compiler would then fill the places of a new queue by
+    // `memset`, and the archive for C would ask for it from outside.
+    #[tactic(auto, unfolding(crate::specs::Queue::after_of))]
     pub fn after(self, moved: Moved) -> Queue
         requires { Fits moved }
         ensures { result ≡ after_of self moved }
     {
-        let mut queue = self;
-        settle(&mut queue, moved);
-        queue
+        let mut bytes = self.bytes;
+        let mut marks = self.marks;
+        if let Some(Put { place, character }) = moved.put {
+            let place = usize::from(place);
+            bytes[place] = character.byte;
+            marks[place] = character.mark;
+        }
+        Queue {
+            bytes,
+            marks,
+            start: moved.start,
+            count: moved.count,
+        }
     }
 }
 
