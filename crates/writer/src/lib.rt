@@ -11,7 +11,7 @@ use event::{Event, Kind, Touch, event_of, refused_answer};
 const TWO_GROUPS: u8 = 128;
 
 // The bytes with their count, places past the count 0, and 0 for the refusal; of a refused event no byte, and its number. This is
-// document 01's form of what the writer gives, which the contract of `write` and `written_five_at_most` hold.
+// document 01's form of what the writer gives, which the contract of `write` holds.
 #[derive(Clone, Copy)]
 pub struct Written {
     pub bytes: [u8; 5],
@@ -76,7 +76,7 @@ pub fn write(kind: u64, x: u64, y: u64, z: u64) -> Written
 }
 
 // The event of plain numbers, written at the start of a buffer where it fits: the count of its bytes, 0 where it does
-// not fit, or 512 and the refusal number, as C is told (`Put`).
+// not fit, or 512 and the refusal number, as C is told (`Put`). What it puts is what `write` gives (`put_written`).
 #[tactic(auto, using(event::specs::Laws::made_in_range), unfolding(crate::specs::Writing::put_answer, crate::specs::Writing::put_into, crate::specs::Writing::whole_of, crate::specs::Writing::padded))]
 pub fn put_event(out: &mut [u8], kind: u64, x: u64, y: u64, z: u64) -> u32
     ensures { Put out.old (event_of kind x y z) out.new result }
