@@ -14,7 +14,7 @@ pub fn room(settings: Settings) -> u8
 }
 
 // Whether an FCR write turns the FIFOs on or off.
-#[tactic(auto, using(bits::specs::Conditions::ne_differs), unfolding(crate::specs::Queues::fifo_changes))]
+#[tactic(auto, using(bits::specs::Conditions::ne_differs), unfolding(crate::specs::Queues::fifo_changes, bits::specs::Bits::differs))]
 fn fifo_changes(settings: Settings, byte: u8) -> bool
     ensures { result ≡ fifo_changes settings byte }
 {
