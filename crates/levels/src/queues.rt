@@ -13,7 +13,8 @@ pub fn room(settings: Settings) -> u8
     chosen(bit(settings.fcr, 0), 64, 1)
 }
 
-// Whether an FCR write turns the FIFOs on or off.
+// Whether an FCR write turns the FIFOs on or off. With `differs` unfolded the same in other words is proved too, so that an edit of it
+// is refused for what it says.
 #[tactic(auto, using(bits::specs::Conditions::ne_differs), unfolding(crate::specs::Queues::fifo_changes, bits::specs::Bits::differs))]
 fn fifo_changes(settings: Settings, byte: u8) -> bool
     ensures { result ≡ fifo_changes settings byte }
