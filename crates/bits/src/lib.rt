@@ -67,10 +67,13 @@ pub fn replaced(old: u8, new: u8, place: u8, width: u8) -> u8
     joined(taken, above, part(old, above, 8))
 }
 
+// As many ones as a word is long: 5, 6, 7 and 8.
+const WORD_MASKS: [u8; 4] = [0x1f, 0x3f, 0x7f, 0xff];
+
 // A character cut to the word length, 5 + LCR 1:0 bits.
-#[tactic(auto, using(crate::specs::Laws::part_in, crate::specs::Laws::cut_part))]
+#[tactic(auto, using(crate::specs::Laws::part_in))]
 pub fn cut(character: u8, lcr: u8) -> u8
     ensures { result ≡ cut_to character lcr }
 {
-    part(character, 0, 5 + part(lcr, 0, 2))
+    character & WORD_MASKS[usize::from(part(lcr, 0, 2))]
 }
